@@ -3,7 +3,7 @@ use Rattle.std.proofs.Common.{ℕ, zero, suc, ◌<◌, List, [], ◌∷◌, ◌+
 use Rattle.std.specs.List.{remove}
 use Rattle.std.proofs.lemmas.List.Elements.{All-nil, All-cons, All-head, All-tail, All-append, All-take, All-drop}
 use Rattle.hdl_client.specs.declared.batch.Flight.{Flight}
-use Rattle.hdl_client.specs.declared.batch.Task.{Task}
+use Rattle.hdl_client.specs.declared.task.Task.{Task}
 use Rattle.hdl_client.specs.Batch.{OrderMatters, IsApart, AreApart}
 
 -- it doesn't matter which of two is named first
@@ -22,7 +22,7 @@ apart_more (f ∷ fs) flight h all =
       apart_more fs flight h.1 (All-tail (IsApart flight.task.now) f fs all),
     )
 
-all_without : (P : Flight → Type 0) (flights : List Flight) (place : ℕ) → All P flights → All P (remove flights place)
+pub all_without : (P : Flight → Type 0) (flights : List Flight) (place : ℕ) → All P flights → All P (remove flights place)
 all_without P flights place all = All-append P (take place flights) (drop (suc place) flights) (All-take P place flights all) (All-drop P (suc place) flights all)
 
 -- one less

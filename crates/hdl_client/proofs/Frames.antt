@@ -7,7 +7,10 @@ use Rattle.hdl_frame.specs.Envelope.{envelope_at, fault_of, payload_len}
 use Rattle.hdl_frame.specs.Frames.{IsFrame}
 use Rattle.hdl_frame.proofs.FrameLemmas.{envelope_at-append}
 use Rattle.hdl_client.specs.declared.exchange.OwnedFrame.{OwnedFrame}
-use Rattle.hdl_client.specs.Exchange.{TakesFrame}
+use Rattle.hdl_value.specs.declared.wire.Wire.{Wire}
+use Rattle.hdl_frame.specs.declared.envelope.Envelope.{Envelope}
+use Rattle.hdl_client.specs.Exchange.{TakesFrame, delivery_in}
+use Rattle.hdl_client.specs.Reply.{Delivery}
 
 -- an accepted envelope, and as many octets as follow it
 pub whole_is_frame : (front payload : List ℕ) → length front ≡ 20 → fault_of (envelope_at front) ≡ None → length payload ≡ payload_len (envelope_at front) → IsFrame (front ++ payload)
@@ -43,3 +46,13 @@ takes_frame all mid rest front payload found first second twenty read accepted l
       envelope = read ∙ sym at;
       payload = same ∙ sym behind;
     }
+
+abbrev pub delivery : Wire → Envelope → List ℕ → Delivery
+delivery wire envelope message = record { wire = wire; envelope = envelope; message = message }
+
+-- what is made of a frame that was taken is what came in it
+pub carried : (before after : Option (List ℕ)) (wire : Wire) (found : OwnedFrame) (taken : TakesFrame before after found) (reply : Delivery) → reply ≡ delivery wire found.envelope found.payload.items → reply ≡ delivery_in wire taken.octets
+carried before after wire found taken reply e =
+    let envelopes : delivery wire found.envelope found.payload.items ≡ delivery wire (envelope_at taken.octets) found.payload.items = ap (λ (v : Envelope). delivery wire v found.payload.items) taken.envelope in
+    let messages : delivery wire (envelope_at taken.octets) found.payload.items ≡ delivery_in wire taken.octets = ap (delivery wire (envelope_at taken.octets)) taken.payload in
+    e ∙ envelopes ∙ messages

@@ -1,3 +1,4 @@
 pub mod Apart
 pub mod Frames
 pub mod Listed
+pub mod Told

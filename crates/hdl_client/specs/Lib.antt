@@ -4,3 +4,5 @@ pub mod Batch
 pub mod Exchange
 pub mod Reply
 pub mod Challenge
+pub mod RequestMessage
+pub mod Told

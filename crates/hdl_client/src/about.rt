@@ -100,7 +100,7 @@ fn check_about(
     Ok(())
 }
 
-fn named_handle<'m>(body: &Body<'m>) -> &'m [u8]
+pub(crate) fn named_handle<'m>(body: &Body<'m>) -> &'m [u8]
     ensures { result.now ≡ named_handle (operation_of body.now) }
 {
     match body {

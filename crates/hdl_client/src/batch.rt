@@ -1,9 +1,10 @@
 //! Many requests on one connection, several of them in flight.
 
-ghost use Rattle.std.specs.Prelude.{◌≡◌, ◌↔◌, IsTrue, All, IfOk, IfSome, option_copied};
+ghost use Rattle.std.specs.Prelude.{◌≡◌, ◌↔◌, ◌<◌, [], false, IsTrue, All, IfOk, OnOk, IfSome, MatchOption, option_copied};
 ghost use Rattle.hdl_msg.specs.Reply.{reply_seen};
-ghost use Rattle.hdl_client.specs.About.{IsAnswerTo};
-ghost use Rattle.hdl_client.specs.Batch.{OrderMatters, IsApart, AreApart, key_of, AnswersFor, Lands};
+ghost use Rattle.hdl_client.specs.Asking.{IsUnchallenged};
+ghost use Rattle.hdl_client.specs.Batch.{OrderMatters, IsApart, AreApart, frames_due, key_of, AnswersFor, Lands};
+ghost use Rattle.hdl_client.specs.Told.{IsTaken, IsLaunched, GoesOn, IsWhole};
 
 use crate::about::check_answer;
 use crate::challenge::{Key, challenge_answer};
@@ -11,44 +12,11 @@ use crate::exchange::receive;
 use crate::fault::ClientFault;
 use crate::reply::Reply;
 use crate::session::Session;
+use crate::task::{Batch, Outcomes, Task};
 use crate::transport::Transport;
 use hdl_limits::CHALLENGES_MAX;
 use hdl_msg::ReplyView;
-use hdl_value::Wire;
 use std::alloc::Global;
-
-/// A request of a batch.
-#[derive(Drop)]
-pub struct Task {
-    /// The line of the text that it begins at, from 1.
-    pub line: usize,
-    /// Its operation and handle, as it was written.
-    pub title: String,
-    pub message: Vec<u8>,
-    /// By whose layout values stand in the message, and in the reply.
-    pub wire: Wire,
-    /// Which of the batch's keys answers its challenge.
-    pub key: Option<usize>,
-    /// The canonical form of its handle.
-    pub handle: Vec<u8>,
-    /// Whether it may change what other requests need, so that nothing else is in flight with it.
-    pub is_alone: bool,
-}
-
-/// The requests of a text, in its order.
-#[derive(Drop)]
-pub struct Batch {
-    pub keys: Vec<Key>,
-    pub tasks: Vec<Task>,
-}
-
-/// Receives the outcome of each request of a batch, as it comes.
-pub trait Outcomes {
-    /// The reply to this task came, with this code. It is about what the task asks.
-    fn note_reply(&mut self, task: &Task, code: u32, reply: &ReplyView<'_>)
-        requires own_code { code ≡ (reply_seen reply.now).header.response_code }
-        requires answers { IsAnswerTo task.now.wire task.now.message.items (reply_seen reply.now) };
-}
 
 /// A request that waits for its reply: its task, the RequestId of what was sent last for it, and whether that answers a challenge.
 #[derive(Clone, Copy)]
@@ -62,7 +30,9 @@ struct Flight<'b> {
 fn order_matters(one: &Task, other: &Task) -> bool
     ensures { IsTrue result ↔ OrderMatters one.now other.now }
 {
-    one.is_alone || other.is_alone || one.handle.as_slice() == other.handle.as_slice()
+    one.request.is_alone()
+        || other.request.is_alone()
+        || one.request.handle() == other.request.handle()
 }
 
 /// Whether a task may fly with those in flight: with none of them its order matters.
@@ -98,13 +68,15 @@ fn answer_by_key(
     flight: &Flight<'_>,
     reply: &ReplyView<'_>,
 ) -> Result<Option<Vec<u8>>, ClientFault>
-    ensures { IfOk result (λ r. IfSome r (λ v. AnswersFor keys.now flight.now.task.now (reply_seen reply.now) v.items)) }
+    ensures { IfOk result (λ r. MatchOption r
+        (flight.now.is_answer ≡ false → IfSome (key_of keys.now flight.now.task.now) (λ _. IsUnchallenged (reply_seen reply.now)))
+        (λ v. (flight.now.is_answer ≡ false) × AnswersFor keys.now flight.now.task.now (reply_seen reply.now) v.items)) }
 {
     if flight.is_answer {
         return Ok(None);
     }
     match key_of(keys, flight.task) {
-        Some(key) => challenge_answer(alloc, key, &flight.task.message, reply),
+        Some(key) => challenge_answer(alloc, key, flight.task.request.octets(), reply),
         None => Ok(None),
     }
 }
@@ -116,12 +88,13 @@ fn land_reply(
     flight: &Flight<'_>,
     reply: &ReplyView<'_>,
 ) -> Result<Landing, ClientFault>
-    ensures { IfOk result (λ landing. Lands keys.now flight.now.task.now (reply_seen reply.now) landing) }
+    ensures { IfOk result (λ landing. Lands keys.now flight.now (reply_seen reply.now) landing) }
 {
     if let Some(answer) = answer_by_key(alloc, keys, flight, reply)? {
         return Ok(Landing::Challenge(answer));
     }
-    check_answer(alloc, flight.task.wire, &flight.task.message, reply)?;
+    let request = &flight.task.request;
+    check_answer(alloc, request.wire(), request.octets(), reply)?;
     Ok(Landing::Done(reply.header.response_code))
 }
 
@@ -129,7 +102,9 @@ fn land_reply(
 fn take_flight<'b>(flights: &mut Vec<Flight<'b>>, request: u32) -> Result<Flight<'b>, ClientFault>
     requires { AreApart flights.old.items }
     ensures apart { AreApart flights.new.items }
-    ensures taken { IfOk result (λ flight. All (IsApart flight.task.now) flights.new.items) }
+    ensures free { IfOk result (λ flight. All (IsApart flight.task.now) flights.new.items) }
+    ensures taken { IfOk result (λ flight. IsTaken flights.old.items flight flights.new.items) }
+    ensures own { IfOk result (λ flight. flight.request ≡ request) }
 {
     match flights.iter().position(|flight| flight.request == request) {
         Some(place) => Ok(flights.remove(place)),
@@ -150,6 +125,7 @@ impl<S: Transport> Session<S> {
         requires apart { AreApart flights.old.items }
         requires free { All (IsApart task.now) flights.old.items }
         ensures apart { AreApart flights.new.items }
+        ensures launched { OnOk result (IsLaunched S.Transport self.old.stream flights.old.items task.now session message.now is_answer self.new.stream flights.new.items) }
     {
         let request = self.send_next(session, message)?;
         flights.push(Flight {
@@ -160,54 +136,69 @@ impl<S: Transport> Session<S> {
         Ok(())
     }
 
-    /// Sends what may fly, from the task `next` on; answers which task is next then.
-    fn fill<'b>(
-        &mut self,
-        batch: &'b Batch,
-        flights: &mut Vec<Flight<'b>>,
-        next: usize,
-    ) -> Result<usize, ClientFault>
-        requires { AreApart flights.old.items }
-        ensures apart { AreApart flights.new.items }
-    {
-        let mut next = next;
-        for _ in flights.len()..CHALLENGES_MAX {
-            let Some(task) = batch.tasks.get(next) else {
-                break;
-            };
-            if !may_fly(task, flights) {
-                break;
-            }
-            self.launch(flights, task, 0, &task.message, false)?;
-            next = next.saturating_add(1);
-        }
-        Ok(next)
-    }
-
     /// Takes one frame, and answers the challenge or tells the outcome.
     fn land<'b, O: Outcomes>(
         &mut self,
-        batch: &'b Batch,
+        keys: &[Key],
         flights: &mut Vec<Flight<'b>>,
         outcomes: &mut O,
     ) -> Result<(), ClientFault>
         requires { AreApart flights.old.items }
         ensures apart { AreApart flights.new.items }
+        ensures goes_on { OnOk result (GoesOn S.Transport O.notes keys.now self.old.stream outcomes.old flights.old.items self.new.stream outcomes.new flights.new.items) }
+        ensures due { OnOk result (frames_due flights.new.items < frames_due flights.old.items) }
     {
         let frame = receive(self.alloc, &mut self.stream)?;
         let flight = take_flight(flights, frame.envelope.request)?;
-        let reply = Reply::of_frame(flight.task.wire, frame, flight.request)?;
+        let reply = Reply::of_frame(flight.task.request.wire(), frame, flight.request)?;
         let view = reply.view();
-        match land_reply(self.alloc, &batch.keys, &flight, &view)? {
+        match land_reply(self.alloc, keys, &flight, &view)? {
             Landing::Done(code) => {
                 outcomes.note_reply(flight.task, code, &view);
                 Ok(())
             }
             Landing::Challenge(answer) => {
                 let session = reply.envelope().session;
-                self.launch(flights, flight.task, session, &answer, true)
+                self.launch(flights, flight.task, session, &answer, true)?;
+                Ok(())
             }
         }
+    }
+
+    /// Takes replies until the task may fly with those that are in flight then, and there is room for it: a service keeps so many challenges.
+    fn make_way<'b, O: Outcomes>(
+        &mut self,
+        keys: &[Key],
+        flights: &mut Vec<Flight<'b>>,
+        outcomes: &mut O,
+        task: &Task,
+    ) -> Result<(), ClientFault>
+        requires { AreApart flights.old.items }
+        ensures apart { AreApart flights.new.items }
+        ensures free { OnOk result (All (IsApart task.now) flights.new.items) }
+        ensures goes_on { OnOk result (GoesOn S.Transport O.notes keys.now self.old.stream outcomes.old flights.old.items self.new.stream outcomes.new flights.new.items) }
+    {
+        'replies: while flights.len() >= CHALLENGES_MAX || !may_fly(task, flights) {
+            self.land(keys, flights, outcomes)?;
+        }
+        Ok(())
+    }
+
+    /// Takes the replies to all that are in flight.
+    fn land_all<'b, O: Outcomes>(
+        &mut self,
+        keys: &[Key],
+        flights: &mut Vec<Flight<'b>>,
+        outcomes: &mut O,
+    ) -> Result<(), ClientFault>
+        requires { AreApart flights.old.items }
+        ensures none { OnOk result (flights.new.items ≡ []) }
+        ensures goes_on { OnOk result (GoesOn S.Transport O.notes keys.now self.old.stream outcomes.old flights.old.items self.new.stream outcomes.new flights.new.items) }
+    {
+        'replies: while !flights.is_empty() {
+            self.land(keys, flights, outcomes)?;
+        }
+        Ok(())
     }
 
     /// Asks all of a batch, and reports the outcome of each request as it comes. Requests whose order may matter aren't in flight
@@ -217,17 +208,16 @@ impl<S: Transport> Session<S> {
         &mut self,
         batch: &Batch,
         outcomes: &mut O,
-    ) -> Result<(), ClientFault> {
+    ) -> Result<(), ClientFault>
+        ensures whole { OnOk result (IsWhole S.Transport O.notes batch.now.keys.items batch.now.tasks.items self.old.stream outcomes.old self.new.stream outcomes.new) }
+    {
         let mut flights = Vec::with_capacity(self.alloc, CHALLENGES_MAX)?;
-        let mut next = 0;
-        // A request takes at most two frames.
-        for _ in 0..batch.tasks.len().saturating_mul(2) {
-            next = self.fill(batch, &mut flights, next)?;
-            if flights.is_empty() {
-                break;
-            }
-            self.land(batch, &mut flights, outcomes)?;
+        for place in 0..batch.tasks.len() {
+            let task = &batch.tasks[place];
+            self.make_way(&batch.keys, &mut flights, outcomes, task)?;
+            self.launch(&mut flights, task, 0, task.request.octets(), false)?;
         }
+        self.land_all(&batch.keys, &mut flights, outcomes)?;
         Ok(())
     }
 }

@@ -58,6 +58,8 @@ pub enum ClientFault {
     OtherChallenge,
     #[error("the request has more than {MESSAGE_MAX} octets")]
     TooLong,
+    #[error("the request names no handle")]
+    NoHandle,
     #[error("no memory")]
     Memory,
 }

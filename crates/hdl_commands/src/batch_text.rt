@@ -9,11 +9,11 @@ use crate::key::read_key;
 use crate::request::{Details, request_of, takes_values};
 use crate::scripts::find_asker;
 use crate::words::operation_in;
-use hdl_client::{Batch, Task, request_message};
+use hdl_client::{Batch, RequestMessage, Task, request_message};
 use hdl_msg::{OpCode, RequestBody};
 use hdl_name::Name;
 use hdl_tenants::Tenants;
-use hdl_value::{Value, Wire};
+use hdl_value::Wire;
 use std::alloc::Global;
 use thiserror::Error;
 
@@ -25,10 +25,13 @@ pub struct BatchFault {
     pub fault: WordFault,
 }
 
-/// A request whose values may still come: the task without its message, and what this is made of.
+/// A request whose values may still come: what its task is made of.
 #[derive(Drop)]
 struct Block {
-    task: Task,
+    line: usize,
+    title: String,
+    wire: Wire,
+    key: Option<usize>,
     operation: OpCode,
     handle: String,
     details: Details,
@@ -64,28 +67,15 @@ struct Reader<'t> {
     reference: Option<String>,
 }
 
-/// Whether a value may change who else is an administrator: a key, or a list of keys.
-pub(crate) fn is_relied_on(value: &Value) -> bool {
-    value.is_secret_key() || value.is_list()
-}
-
-/// Whether a request may change what requests on other handles need, whatever its values are.
-pub(crate) fn may_disturb(operation: OpCode, name: &Name) -> bool {
-    !matches!(
-        operation,
-        OpCode::CreateHandle | OpCode::AddValue | OpCode::Resolution
-    ) || name.is_admin_handle()
-}
-
 fn message_of(
     alloc: Global,
     wire: Wire,
     operation: OpCode,
     handle: &str,
     details: Details,
-) -> Result<Vec<u8>, WordFault> {
+) -> Result<RequestMessage, WordFault> {
     let body = request_of(alloc, operation, handle, details)?;
-    message_or_fault(alloc, wire, &body)
+    Ok(RequestMessage::new(alloc, wire, &body)?)
 }
 
 /// The message of a request, or what is wrong with its words.
@@ -124,35 +114,22 @@ impl Reader<'_> {
             return Ok(());
         };
         let Block {
-            mut task,
+            line,
+            title,
+            wire,
+            key,
             operation,
             handle,
             details,
         } = block;
-        task.is_alone = task.is_alone || details.values.iter().any(is_relied_on);
-        task.message = message_of(self.alloc, task.wire, operation, &handle, details)?;
-        self.batch.tasks.push(task)?;
-        Ok(())
-    }
-
-    /// The task of a request that begins at this line.
-    fn task(
-        &self,
-        line: usize,
-        operation: OpCode,
-        title: &str,
-        handle: &str,
-    ) -> Result<Task, WordFault> {
-        let name = Name::read(self.alloc, handle.as_bytes())?;
-        Ok(Task {
+        let request = message_of(self.alloc, wire, operation, &handle, details)?;
+        self.batch.tasks.push(Task {
             line,
-            title: String::from_str(self.alloc, title)?,
-            message: Vec::new(self.alloc),
-            wire: self.layouts.of(&name),
-            key: self.batch.keys.len().checked_sub(1),
-            handle: Vec::from_slice(self.alloc, name.canon())?,
-            is_alone: may_disturb(operation, &name),
-        })
+            title,
+            request,
+            key,
+        })?;
+        Ok(())
     }
 
     /// Begins a request by its first line.
@@ -165,9 +142,12 @@ impl Reader<'_> {
     ) -> Result<(), WordFault> {
         let mut details = Details::new(self.alloc);
         let handle = handle_of(operation, words, &mut details)?;
-        let task = self.task(line, operation, title, handle)?;
+        let name = Name::read(self.alloc, handle.as_bytes())?;
         self.block = Some(Block {
-            task,
+            line,
+            title: String::from_str(self.alloc, title)?,
+            wire: self.layouts.of(&name),
+            key: self.batch.keys.len().checked_sub(1),
             operation,
             handle: String::from_str(self.alloc, handle)?,
             details,
@@ -232,7 +212,7 @@ impl Reader<'_> {
 
     /// The line at which the request that may go on began.
     fn first_line(&self) -> Option<usize> {
-        self.block.as_ref().map(|block| block.task.line)
+        self.block.as_ref().map(|block| block.line)
     }
 
     /// Reads all lines.

@@ -1,5 +1,9 @@
 //! A batch, asked of a server.
 
+ghost use Rattle.std.specs.Prelude.{◌≡◌, ◌↔◌, OnOk};
+ghost use Rattle.hdl_msg.specs.declared.codes.ResponseCode.TheVariants.{Success};
+ghost use Rattle.hdl_msg.specs.Codes.{response_number};
+
 use crate::batch_text::{Layouts, read_batch};
 use crate::telling::tell_fault;
 use crate::words::code_name;
@@ -14,6 +18,8 @@ use std::io::IsTerminal;
 struct Tally<'r> {
     rt: &'r HostRuntime,
     done: usize,
+    failures: usize,
+    /// The lines of those that failed.
     failed: Vec<usize>,
     /// How many requests there are, where progress is shown.
     shown_of: Option<usize>,
@@ -32,9 +38,13 @@ impl Tally<'_> {
 }
 
 impl Outcomes for Tally<'_> {
+    // None has failed exactly if none had and this one succeeded.
+    ghost notes = { λ old _ code new. (new.failures ≡ 0) ↔ ((old.failures ≡ 0) × (code ≡ response_number Success)) };
+
     fn note_reply(&mut self, task: &Task, code: u32, _reply: &ReplyView<'_>) {
         self.done = self.done.saturating_add(1);
         if code != ResponseCode::Success.number() {
+            self.failures = self.failures.saturating_add(1);
             // without memory for it the line is missing from the last one
             let _ = self.failed.push(task.line);
         }
@@ -65,9 +75,9 @@ fn run_batch(
 
 /// Prints how many requests succeeded, and the lines of those that failed.
 fn print_end(tally: &Tally<'_>) {
-    let failed = tally.failed.len();
-    let succeeded = tally.done.saturating_sub(failed);
-    let _ = println!(tally.rt; "{succeeded} succeeded, {failed} failed");
+    let failures = tally.failures;
+    let succeeded = tally.done.saturating_sub(failures);
+    let _ = println!(tally.rt; "{succeeded} succeeded, {failures} failed");
     for line in &tally.failed {
         let _ = println!(tally.rt; "failed: line {line}");
     }
@@ -87,13 +97,14 @@ pub fn run_batch_text(rt: &HostRuntime, server: &str, wire: Wire, text: &str) ->
     let mut tally = Tally {
         rt,
         done: 0,
+        failures: 0,
         failed: Vec::new(rt.alloc()),
         shown_of: Some(batch.tasks.len()).filter(|_| is_watched(rt)),
     };
     let ended = run_batch(rt, server, &batch, &mut tally);
     print_end(&tally);
     match ended {
-        Ok(()) => u8::from(!tally.failed.is_empty()),
+        Ok(()) => u8::from(tally.failures > 0),
         Err(fault) => {
             let left = batch.tasks.len().saturating_sub(tally.done);
             tell_fault(rt, server, fault);

@@ -110,13 +110,13 @@ fn push_lane(script: &mut String, alloc: Global, word: &str, lane: u16) -> Resul
 
 /// What asks about a task's handle.
 fn asker_of(alloc: Global, tenants: &Tenants, task: &Task) -> Result<Asker, WordFault> {
-    let name = Name::read(alloc, &task.handle)?;
+    let name = Name::read(alloc, task.request.handle())?;
     Ok(find_asker(tenants, &name))
 }
 
 /// Whether a task is challenged where a key is there: all but resolutions, which ask as anyone.
 fn is_challenged(task: &Task) -> bool {
-    match read_request(task.wire, &task.message) {
+    match read_request(task.request.wire(), task.request.octets()) {
         Ok(request) => !matches!(request.body(), Body::Resolution { .. }),
         Err(_) => false,
     }
@@ -148,9 +148,9 @@ fn push_task(
     let asker = asker_of(alloc, tenants, task)?;
     push_title(script, alloc, &task.title)?;
     push_lane(script, alloc, "open", asker.lane)?;
-    push_frame(script, alloc, asker.lane, 0, 1, &task.message)?;
+    push_frame(script, alloc, asker.lane, 0, 1, task.request.octets())?;
     if let Some(key) = task_key(batch, task) {
-        push_response(script, alloc, asker, key, &task.message)?;
+        push_response(script, alloc, asker, key, task.request.octets())?;
     }
     push_lane(script, alloc, "close", asker.lane)?;
     Ok(())

@@ -38,7 +38,7 @@ kept_line r between s text texts rest (hosted prefix name a) is ok e =
     (λ _. (hosted prefix name a, is, ok, ap bare e)) (λ none. absurd (true≢false (sym (begins text _ _ _ is.split) ∙ none))) rest
 kept_line r between s text texts rest (sited name octets) is ok e =
     kept_step (bare r) (bare between) text texts (bare s) (is_other text) refl
-    (λ _. (sited name octets, is, ok, ap bare e)) (λ none. absurd (true≢false (sym (begins text _ _ _ is.split) ∙ none))) rest
+    (λ _. (sited name octets, is, (record { there = ok.0.there; layout = ok.0.layout }, ok.1), ap bare e)) (λ none. absurd (true≢false (sym (begins text _ _ _ is.split) ∙ none))) rest
 kept_line r between s text texts rest (opened handle v) is ok e =
     kept_step (bare r) (bare between) text texts (bare s) (is_other text) refl
     (λ some. absurd (true≢false (sym some ∙ begins text _ _ _ is.split))) (λ _. sym (ap bare e)) rest

@@ -1,5 +1,9 @@
 //! An import, asked of a server.
 
+ghost use Rattle.std.specs.Prelude.{◌≡◌, ◌≢◌, ◌⊎◌, ◌++◌, ◌∷◌, []};
+ghost use Rattle.hdl_msg.specs.declared.codes.ResponseCode.TheVariants.{Success};
+ghost use Rattle.hdl_msg.specs.Codes.{response_number};
+
 use crate::batches::is_watched;
 use crate::fault::WordFault;
 use crate::imports::rows::{Faults, HandleRows};
@@ -7,7 +11,7 @@ use crate::key::{key_of, read_key_reference};
 use crate::telling::tell_fault;
 use crate::words::code_name;
 use hdl_client::{
-    Batch, ClientFault, Key, Outcomes, Session, Task, Transport, connect, request_message,
+    Batch, ClientFault, Key, Outcomes, RequestMessage, Session, Task, Transport, connect,
 };
 use hdl_limits::{Items, Octets};
 use hdl_lines::{printed_octets, shown_line};
@@ -83,7 +87,9 @@ struct Counts {
 }
 
 impl Counts {
-    fn fail(&mut self) {
+    fn fail(&mut self)
+        ensures { self.new.failed ≢ 0 }
+    {
         self.failed = self.failed.saturating_add(1);
     }
 }
@@ -121,6 +127,9 @@ impl Faults for Creations<'_> {
 }
 
 impl Outcomes for Creations<'_> {
+    // None has failed only if none had, and this one succeeded or its handle is looked at once more.
+    ghost notes = { λ old task code new. new.counts.failed ≡ 0 → (old.counts.failed ≡ 0) × ((code ≡ response_number Success) ⊎ (new.found.items ≡ old.found.items ++ task.line ∷ [])) };
+
     fn note_reply(&mut self, task: &Task, code: u32, _reply: &ReplyView<'_>) {
         if code == ResponseCode::Success.number() {
             self.counts.created = self.counts.created.saturating_add(1);
@@ -158,7 +167,7 @@ fn shows_just(alloc: Global, reply: &ReplyView<'_>, creation: &Task) -> Result<b
     let ContentView::Values { values: there, .. } = reply.content else {
         return Ok(false);
     };
-    let Ok(request) = read_request(creation.wire, &creation.message) else {
+    let Ok(request) = read_request(creation.request.wire(), creation.request.octets()) else {
         return Ok(false);
     };
     let Body::Create { values: meant, .. } = request.body() else {
@@ -180,6 +189,8 @@ struct Comparisons<'r> {
 }
 
 impl Outcomes for Comparisons<'_> {
+    ghost notes = { λ old _ _ new. new.counts.failed ≡ 0 → old.counts.failed ≡ 0 };
+
     fn note_reply(&mut self, task: &Task, code: u32, reply: &ReplyView<'_>) {
         let creation = self.tasks.iter().find(|other| other.line == task.line);
         let is_same = match creation {
@@ -201,28 +212,24 @@ impl Outcomes for Comparisons<'_> {
 }
 
 /// The message that asks for the values of a handle.
-fn resolution(alloc: Global, wire: Wire, handle: &[u8]) -> Result<Vec<u8>, ClientFault> {
+fn resolution(alloc: Global, wire: Wire, handle: &[u8]) -> Result<RequestMessage, ClientFault> {
     let body = RequestBody::Resolution {
         handle: Octets::new(Vec::from_slice(alloc, handle)?),
         indexes: Items::new(Vec::new(alloc)),
         types: Items::new(Vec::new(alloc)),
     };
-    request_message(alloc, wire, &body)
+    RequestMessage::new(alloc, wire, &body)
 }
 
 /// The task that asks for the values of a handle, in the place of the one that was to create it.
 fn question(alloc: Global, task: &Task) -> Result<Task, ClientFault> {
-    let message = resolution(alloc, task.wire, &task.handle)?;
+    let request = resolution(alloc, task.request.wire(), task.request.handle())?;
     let title = String::from_str(alloc, &task.title)?;
-    let handle = Vec::from_slice(alloc, &task.handle)?;
     Ok(Task {
         line: task.line,
         title,
-        message,
-        wire: task.wire,
+        request,
         key: task.key,
-        handle,
-        is_alone: false,
     })
 }
 

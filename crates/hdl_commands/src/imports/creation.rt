@@ -6,13 +6,12 @@ ghost use Rattle.hdl_value.specs.Refs.{is_admin};
 ghost use Rattle.hdl_commands.specs.Rows as rows;
 ghost use Rattle.hdl_commands.specs.Rows.{AreAdministered, Creates};
 
-use crate::batch_text::{is_relied_on, may_disturb, message_or_fault};
 use crate::fault::WordFault;
 use crate::imports::row::{DAY, OPEN};
-use hdl_client::Task;
+use hdl_client::{RequestMessage, Task};
 use hdl_limits::{Items, NAME_MAX, Octets, WRITTEN_MAX};
 use hdl_lines::printed_octets;
-use hdl_msg::{OpCode, RequestBody};
+use hdl_msg::RequestBody;
 use hdl_name::Name;
 use hdl_value::{HS_ADMIN, RawRef, RawRefs, Value, Wire, put_string, put_u16, put_u32};
 use std::alloc::Global;
@@ -116,8 +115,9 @@ fn creation(
     key: &RawRef,
     handle: &[u8],
     rows: Vec<Value>,
-) -> Result<Vec<u8>, WordFault>
-    ensures { IfOk result (λ message. Creates wire key.now handle.now rows.items message.items) }
+) -> Result<RequestMessage, WordFault>
+    ensures creates { IfOk result (λ message. Creates wire key.now handle.now rows.items message.octets) }
+    ensures layout { IfOk result (λ message. message.wire ≡ wire) }
 {
     let values = with_administrator(alloc, key, rows)?;
     check(&values)?;
@@ -125,7 +125,7 @@ fn creation(
         handle: Octets::new(Vec::from_slice(alloc, handle)?),
         values: Items::new(values),
     };
-    message_or_fault(alloc, wire, &body)
+    Ok(RequestMessage::new(alloc, wire, &body)?)
 }
 
 /// The task that creates a handle of its rows' values; `line` is that of the first row.
@@ -137,19 +137,15 @@ pub(crate) fn creation_task(
     handle: &[u8],
     rows: Vec<Value>,
 ) -> Result<Task, WordFault>
-    ensures creates { IfOk result (λ task. Creates wire key.now handle.now rows.items task.message.items) }
-    ensures layout { IfOk result (λ task. task.wire ≡ wire) }
+    ensures creates { IfOk result (λ task. Creates wire key.now handle.now rows.items task.request.octets) }
+    ensures layout { IfOk result (λ task. task.request.wire ≡ wire) }
 {
-    let name = Name::read(alloc, handle)?;
-    let is_alone = may_disturb(OpCode::CreateHandle, &name) || rows.iter().any(is_relied_on);
+    Name::read(alloc, handle)?;
     let message = creation(alloc, wire, key, handle, rows)?;
     Ok(Task {
         line,
         title: printed_octets(alloc, handle)?,
-        message,
-        wire,
+        request: message,
         key: Some(0),
-        handle: Vec::from_slice(alloc, name.canon())?,
-        is_alone,
     })
 }

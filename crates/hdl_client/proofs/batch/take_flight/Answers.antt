@@ -1,4 +1,4 @@
-use Rattle.std.proofs.Common.{◌<◌, All, List, length, get_or, sym, subst, rules}
+use Rattle.std.proofs.Common.{◌≡◌, ◌<◌, All, List, length, get_or, sym, subst, rules}
 use Rattle.std.specs.List.{remove}
 use Rattle.hdl_client.specs.declared.batch.Flight.{Flight}
 use Rattle.hdl_client.specs.Batch.{IsApart, AreApart}
@@ -8,11 +8,16 @@ use Rattle.hdl_client.proofs.batch.take_flight.Goals as goal
 pub returns-in-Some-clause-apart : goal.returns-in-Some-clause-apart
 returns-in-Some-clause-apart c = subst AreApart (sym c.remove.ensures.items) (apart_without c.args.flights.now.items c.in-Some.place c.requires)
 
-pub returns-in-Some-clause-taken : goal.returns-in-Some-clause-taken
-returns-in-Some-clause-taken c =
+pub returns-in-Some-clause-free : goal.returns-in-Some-clause-free
+returns-in-Some-clause-free c =
     let flights : List Flight = c.args.flights.now.items in
     let flight : Flight = c.remove.result in
     let there : c.in-Some.place < length flights = search rules in
     let apart : All (IsApart (get_or flights c.in-Some.place flight).task.now) (remove flights c.in-Some.place) = taken_apart flights c.in-Some.place flight there c.requires in
     let same : All (IsApart flight.task.now) (remove flights c.in-Some.place) = subst (λ (f : Flight). All (IsApart f.task.now) (remove flights c.in-Some.place)) (sym c.remove.ensures.value) apart in
     subst (All (IsApart flight.task.now)) (sym c.remove.ensures.items) same
+
+pub returns-in-Some-clause-taken : goal.returns-in-Some-clause-taken
+returns-in-Some-clause-taken c =
+    let there : c.in-Some.place < length c.args.flights.now.items = search rules in
+    (c.in-Some.place, there, sym c.remove.ensures.value, c.remove.ensures.items)
