@@ -10,7 +10,7 @@
 - docs/PAGE.md, "SECTION" of crates/ and docs/: the page has a heading that begins so.
 - tools/NAME, bench/NAME and examples/NAME, wherever they are named: there is such a file (words in capitals stand for any). A file of tools/ or
   bench/ that nothing names or imports is told too.
-- docs/DESIGN.md, "Six ways": in the first column CRATE `FILE`, `FILE` (`FUNCTION`): the crate has a file of src/ of each name, and a function of
+- docs/DESIGN.md, "Seven ways": in the first column CRATE `FILE`, `FILE` (`FUNCTION`): the crate has a file of src/ of each name, and a function of
   each name in parentheses.
 - The kit of README.md, docs/TOOLCHAIN.md and `--version` is one, and CHANGES.md has the version.
 - docs/PROTOCOL.md, "Limits": each row has the number of its constant, and each number of hdl_limits' `numbers` has a row.
@@ -231,7 +231,7 @@ def missing_links():
 
 
 def missing_stations():
-    page = text_of("docs/DESIGN.md").split("\n## Six ways")[1].split("\n## ")[0]
+    page = text_of("docs/DESIGN.md").split("\n## Seven ways")[1].split("\n## ")[0]
     for cell in re.findall(r"^\| ([^|]*) \|", page, re.MULTILINE):
         for crate, rest in re.findall(r"(hdl_\w+|hdl)\b(.*?)(?=\bhdl_|$)", cell):
             sources = files("crates/%s/src/**/*.rt" % crate)
@@ -241,7 +241,7 @@ def missing_stations():
             outside = re.sub(r"\([^)]*\)", "", rest)
             for named, known in ((re.findall(r"`(\w+)`", outside), there), (re.findall(r"`(\w+)`", inside), functions)):
                 for name in set(named) - known:
-                    yield "docs/DESIGN.md, Six ways: %s has no %s" % (crate, name)
+                    yield "docs/DESIGN.md, Seven ways: %s has no %s" % (crate, name)
 
 
 def wrong_limits():
