@@ -31,7 +31,7 @@ MANY = 2600
 # More octets of memory than any process has.
 TOO_MUCH = 1 << 50
 # How much address space a process has that is to run out of memory, what a value takes, and how many heaps glibc gives its threads: each takes 64 MiB of that space, and who came too late for one has nothing else.
-SCARCE, LONG, HEAPS = 600 << 20, 30000, "2"
+SCARCE, LONG, HEAPS = 450 << 20, 30000, "2"
 
 
 def tenants(*ports):
