@@ -2,7 +2,7 @@
 use Rattle.std.proofs.Common.{◌≡◌, ℕ, Bool, true, Vec, List}
 use Rattle.std.specs.Prelude.{bytes_eq}
 use Rattle.std.specs.declared.alloc.Global.{Global}
-use Rattle.hdl_value.specs.declared.value.Value.{Value}
+use Rattle.hdl_cachedrows.specs.declared.kept.Kept.{Kept}
 use Rattle.lru.specs.LruCache.{LruCache}
 use Rattle.std.proofs.lemmas.Slice.Eq.{bytes_eq-Decides}
 
@@ -20,5 +20,5 @@ pub alike : (g h : List ℕ) → g ≡ h → bytes_eq g h ≡ true
 alike g h = (bytes_eq-Decides g h).1
 
 -- the cache, as `lru` shows it
-abbrev pub Kept : Type 0
-Kept = LruCache (Vec ℕ Global) (Vec Value Global)
+abbrev pub Lru : Type 0
+Lru = LruCache (Vec ℕ Global) Kept

@@ -7,11 +7,11 @@ use Rattle.std.specs.Map.{lookup, lookup_entry, remove_entry}
 use Rattle.std.proofs.lemmas.List.{take_all}
 use Rattle.std.proofs.lemmas.Option.{slice_get-get_or}
 use Rattle.std.proofs.lemmas.List.Sums.{sum_by-cons}
-use Rattle.hdl_value.specs.declared.value.Value.{Value}
+use Rattle.hdl_cachedrows.specs.declared.kept.Kept.{Kept}
 use Rattle.lru.specs.LruCache.{lru_cache, IsValid, promoted, put_entries, displaced, last_entry}
-use Rattle.hdl_cachedrows.specs.Cost.{Entry, cost, entry_cost, total}
+use Rattle.hdl_cachedrows.specs.Cost.{Entry, kept_cost, entry_cost, total}
 use Rattle.hdl_limits.specs.Counts.{at_most_u64}
-use Rattle.hdl_cachedrows.proofs.Keys.{same_key, Kept}
+use Rattle.hdl_cachedrows.proofs.Keys.{same_key, Lru}
 
 -- what an entry that is let go gives back
 abbrev pub given : Option Entry → ℕ
@@ -52,7 +52,7 @@ pub total-pop : (es : List Entry) → total (take (length es - 1) es) + given (l
 total-pop [] = omega arith
 total-pop (e ∷ es) = total-take (length (e ∷ es) - 1) (e ∷ es) ∙ whole (e ∷ es) (suc (length (e ∷ es) - 1)) (omega arith)
 
-module _ (c : Kept) (k : Vec ℕ Global) (v : Vec Value Global) where
+module _ (c : Lru) (k : Vec ℕ Global) (v : Kept) where
   -- the value that is looked up is that of the entry
   found : (es : List Entry) → lookup (same_key k) es ≡ option_map_or (λ e. Some e.1) (lookup_entry (same_key k) es) None
   found [] = refl
@@ -74,16 +74,16 @@ module _ (c : Kept) (k : Vec ℕ Global) (v : Vec Value Global) where
   total-push fits some = subst (λ o. total (put_entries same_key c k v) + given (option_map_or (λ w. Some (k, w)) o (slice_get c.entries (c.cap - 1))) ≡ total c.entries + entry_cost (k, v))
       (sym (found c.entries)) (push_total fits some (lookup_entry (same_key k) c.entries) refl)
 
-  pub total-put : (new : Kept) → IsValid same_key c → new ≡ lru_cache (put_entries same_key c k v) c.cap → total new.entries + given (displaced same_key c k v) ≡ total c.entries + entry_cost (k, v)
-  total-put new valid is = subst (λ (x : Kept). total x.entries + given (displaced same_key c k v) ≡ total c.entries + entry_cost (k, v)) (sym is) (total-push valid.1 valid.2)
+  pub total-put : (new : Lru) → IsValid same_key c → new ≡ lru_cache (put_entries same_key c k v) c.cap → total new.entries + given (displaced same_key c k v) ≡ total c.entries + entry_cost (k, v)
+  total-put new valid is = subst (λ (x : Lru). total x.entries + given (displaced same_key c k v) ≡ total c.entries + entry_cost (k, v)) (sym is) (total-push valid.1 valid.2)
 
 -- what the count is once an entry was let go
-pub let_go : (o : Option Entry) (e : Entry) (h : List ℕ) (vs : List Value) (old rest paid : ℕ)
-    → old < 2 ^ 64 → rest + given o ≡ old → o ≡ Some e → h ≡ e.0.items → vs ≡ e.1.items → paid ≡ at_most_u64 (cost h vs)
+pub let_go : (o : Option Entry) (e : Entry) (h : List ℕ) (old rest paid : ℕ)
+    → old < 2 ^ 64 → rest + given o ≡ old → o ≡ Some e → h ≡ e.0.items → paid ≡ at_most_u64 (kept_cost h e.1)
     → (paid ≤ old) × (old - paid ≡ rest) × (0 < paid)
-let_go o e h vs old rest paid fits rests is name values pays =
+let_go o e h old rest paid fits rests is name pays =
     let back : given o ≡ entry_cost e = ap given is in
-    let pay : paid ≡ at_most_u64 (entry_cost e) = subst (λ g. paid ≡ at_most_u64 (cost g e.1.items)) name (subst (λ ws. paid ≡ at_most_u64 (cost h ws)) values pays) in
+    let pay : paid ≡ at_most_u64 (entry_cost e) = subst (λ g. paid ≡ at_most_u64 (kept_cost g e.1)) name pays in
     (omega arith, omega arith, omega arith)
 
 some_last : (e : Entry) (es : List Entry) → last_entry (e ∷ es) ≡ None → ⊥

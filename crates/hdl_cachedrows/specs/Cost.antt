@@ -4,6 +4,8 @@ use Rattle.std.specs.declared.alloc.Global.{Global}
 use Rattle.hdl_value.specs.declared.references.RawRef.{RawRef}
 use Rattle.hdl_value.specs.declared.value.Value.{Value}
 use Rattle.hdl_cachedrows.specs.declared.cost.TheConstants.{HANDLE_COST, VALUE_COST, REFERENCE_COST}
+use Rattle.hdl_cachedrows.specs.declared.kept.Kept.{Kept}
+use Rattle.hdl_cachedrows.specs.declared.kept.Kept.TheVariants.{Values, Heads}
 
 -- a reference: its parts, and its handle
 abbrev pub reference_cost : RawRef → ℕ
@@ -17,12 +19,21 @@ value_cost v = VALUE_COST + length v.kind + length v.bytes + sum_by reference_co
 abbrev pub cost : List ℕ → List Value → ℕ
 cost h vs = HANDLE_COST + length h + sum_by value_cost vs
 
--- a handle that is kept, with its values
+-- the values, or heads, that are kept of a handle
+abbrev pub kept_values : Kept → List Value
+kept_values (Values vs) = vs.items
+kept_values (Heads vs) = vs.items
+
+-- a handle of which this is kept
+abbrev pub kept_cost : List ℕ → Kept → ℕ
+kept_cost h k = cost h (kept_values k)
+
+-- a handle, and what is kept of it
 abbrev pub Entry : Type 0
-Entry = Vec ℕ Global × Vec Value Global
+Entry = Vec ℕ Global × Kept
 
 abbrev pub entry_cost : Entry → ℕ
-entry_cost e = cost e.0.items e.1.items
+entry_cost e = kept_cost e.0.items e.1
 
 -- all that is kept
 abbrev pub total : List Entry → ℕ

@@ -1,50 +1,28 @@
-//! The values of the handles that were read last.
+//! What was read last, by handle.
 
 ghost use Rattle.std.specs.Prelude.{◌≡◌, ◌≤◌, [], true, IfOk, IfSome};
-ghost use Rattle.hdl_rows.specs.Table.{Table, place, has, at, value_with};
+ghost use Rattle.hdl_rows.specs.Table.{Table, place, has, at};
 ghost use Rattle.hdl_cachedrows.specs.Cost.{total};
 ghost use Rattle.hdl_cachedrows.specs.Cache.{AgreeBut, AreHeads, AreTrue, IsFound};
 
-use crate::cost::entry_cost;
-use hdl_rows::heads::heads_of;
-use hdl_rows::value_with;
+use crate::kept::Kept;
 use hdl_value::Value;
 use lru::LruCache;
 use std::alloc::{AllocError, Global};
 use std::hash::RandomState;
 
-/// The share of the bound that the values of one handle may take: one part of `SHARES`.
+/// The share of the bound that what is kept of one handle may take: one part of `SHARES`.
 const SHARES: usize = 64;
 
-/// Values by canonical handle, the most recently used first. What they cost is counted, and never more than the bound.
+/// What is kept, by canonical handle, the most recently used first. What it costs is counted, and never more than the bound.
 #[derive(Drop)]
 pub(crate) struct Cache {
     pub(crate) alloc: Global,
     pub(crate) limit: usize,
     pub(crate) octets: usize,
-    pub(crate) kept: LruCache<Vec<u8>, Vec<Value>, RandomState>,
+    pub(crate) kept: LruCache<Vec<u8>, Kept, RandomState>,
     ghost counted: { octets ≡ total kept.entries },
     ghost bounded: { octets ≤ limit },
-}
-
-fn copies(alloc: Global, values: &[Value]) -> Result<Vec<Value>, AllocError>
-    ensures { IfOk result (λ all. all.items ≡ values.now) }
-{
-    let mut all = Vec::with_capacity(alloc, values.len())?;
-    for value in values {
-        all.push(value.copy(alloc)?)?;
-    }
-    Ok(all)
-}
-
-/// A copy of the value with this index, if there is one.
-fn copy_with(alloc: Global, values: &[Value], index: u32) -> Result<Option<Value>, AllocError>
-    ensures { IfOk result (λ value. value ≡ value_with index values.now) }
-{
-    match value_with(values, index) {
-        Some(value) => Ok(Some(value.copy(alloc)?)),
-        None => Ok(None),
-    }
 }
 
 impl Cache {
@@ -62,45 +40,45 @@ impl Cache {
         })
     }
 
-    /// Whether the values of a handle are kept.
+    /// Whether a handle is kept.
     pub(crate) fn has(&self, name: &[u8]) -> bool
         ensures of_table { (t : Table) → AreTrue t self.now.kept.entries → result ≡ true → has t name.now ≡ true }
     {
         self.kept.contains(name)
     }
 
-    /// A copy of the values of a handle, which are then the most recently used. None: they aren't kept, or memory for the copy was refused.
+    /// A copy of the values of a handle, which is then the most recently used. None: they aren't kept, or memory for the copy was refused.
     pub(crate) fn find(&mut self, name: &[u8]) -> Option<Vec<Value>>
         ensures of_table { (t : Table) → AreTrue t self.old.kept.entries → IfSome result (λ all. IsFound t name.now all.items) }
         ensures still_true { (t : Table) → AreTrue t self.old.kept.entries → AreTrue t self.new.kept.entries }
         ensures same_limit { self.new.limit ≡ self.old.limit }
     {
         match self.kept.get(name) {
-            Some(values) => copies(self.alloc, values).ok(),
+            Some(kept) => kept.values(self.alloc),
             None => None,
         }
     }
 
-    /// The heads of the values of a handle, which are then the most recently used. None: they aren't kept, or memory for the heads was refused.
+    /// The heads of the values of a handle, which is then the most recently used. None: it isn't kept, or memory for the heads was refused.
     pub(crate) fn find_heads(&mut self, name: &[u8]) -> Option<Vec<Value>>
         ensures of_table { (t : Table) → AreTrue t self.old.kept.entries → IfSome result (λ all. AreHeads t name.now all.items) }
         ensures still_true { (t : Table) → AreTrue t self.old.kept.entries → AreTrue t self.new.kept.entries }
         ensures same_limit { self.new.limit ≡ self.old.limit }
     {
         match self.kept.get(name) {
-            Some(values) => heads_of(self.alloc, values).ok(),
+            Some(kept) => kept.heads(self.alloc),
             None => None,
         }
     }
 
-    /// A copy of the value at an index of a handle, or that there is none. None: its values aren't kept, or memory was refused.
+    /// A copy of the value at an index of a handle, or that there is none. None: this isn't kept, or memory was refused.
     pub(crate) fn find_at(&mut self, name: &[u8], index: u32) -> Option<Option<Value>>
         ensures of_table { (t : Table) → AreTrue t self.old.kept.entries → IfSome result (λ value. value ≡ at t (place name.now index)) }
         ensures still_true { (t : Table) → AreTrue t self.old.kept.entries → AreTrue t self.new.kept.entries }
         ensures same_limit { self.new.limit ≡ self.old.limit }
     {
         match self.kept.get(name) {
-            Some(values) => copy_with(self.alloc, values, index).ok(),
+            Some(kept) => kept.at(self.alloc, index),
             None => None,
         }
     }
@@ -113,34 +91,36 @@ impl Cache {
     {
         while self.octets > most {
             match self.kept.pop_lru() {
-                Some((name, values)) => self.octets -= entry_cost(&name, &values),
+                Some((name, kept)) => self.octets -= kept.cost(&name),
                 None => unreachable!(),
             }
         }
     }
 
-    /// Keeps the values of a handle, unless they cost more than their share. Want of memory keeps nothing.
+    /// Keeps the values of a handle, or their heads if the values cost more than their share, or neither if the heads do too. Want of memory
+    /// keeps nothing.
     pub(crate) fn keep(&mut self, name: &[u8], values: &[Value])
         ensures still_true { (t : Table) → AreTrue t self.old.kept.entries → IsFound t name.now values.now → AreTrue t self.new.kept.entries }
         ensures same_limit { self.new.limit ≡ self.old.limit }
     {
-        let cost = entry_cost(name, values);
-        if cost > self.limit / SHARES {
+        let share = self.limit / SHARES;
+        let Ok(kept) = Kept::of(self.alloc, name, values, share) else {
+            return;
+        };
+        let cost = kept.cost(name);
+        if cost > share {
             return;
         }
         let Ok(key) = Vec::from_slice(self.alloc, name) else {
             return;
         };
-        let Ok(copy) = copies(self.alloc, values) else {
-            return;
-        };
         self.shrink(self.limit - cost);
         // `len` says that there are no more than the map has room for, so `push` tells of each that it lets go.
         let _ = self.kept.len();
-        if let Ok(displaced) = self.kept.push(key, copy) {
+        if let Ok(displaced) = self.kept.push(key, kept) {
             self.octets += cost;
-            if let Some((name, values)) = displaced {
-                self.octets -= entry_cost(&name, &values);
+            if let Some((name, kept)) = displaced {
+                self.octets -= kept.cost(&name);
             }
         }
     }
@@ -152,8 +132,8 @@ impl Cache {
     {
         // `len` says that no handle is there twice, so what is left is of others.
         let _ = self.kept.len();
-        if let Some((name, values)) = self.kept.pop_entry(name) {
-            self.octets -= entry_cost(&name, &values);
+        if let Some((name, kept)) = self.kept.pop_entry(name) {
+            self.octets -= kept.cost(&name);
         }
     }
 }

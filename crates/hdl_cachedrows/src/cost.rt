@@ -40,7 +40,7 @@ fn value_cost(value: &Value) -> usize
         .saturating_add(refs)
 }
 
-/// What a handle costs with these values.
+/// What a handle costs with these values, or heads.
 pub(crate) fn entry_cost(name: &[u8], values: &[Value]) -> usize
     ensures { result ≡ at_most_u64 (cost.cost name.now values.now) }
 {

@@ -15,6 +15,10 @@ pub returns-in-Some-clause-found : goal.returns-in-Some-clause-found
 returns-in-Some-clause-found g c =
     (seen_at (λ t h. IsFound t h c.in-Some.values.items) _ _ _ _ c.self.view_is c.canon.ensures (c.in-Some.ensures.of_table (g.R.Rows.content c.self.inside.rows) c.self.invariant)).found
 
+pub returns-in-Some-clause-by_index : goal.returns-in-Some-clause-by_index
+returns-in-Some-clause-by_index g c =
+    (seen_at (λ t h. IsFound t h c.in-Some.values.items) _ _ _ _ c.self.view_is c.canon.ensures (c.in-Some.ensures.of_table (g.R.Rows.content c.self.inside.rows) c.self.invariant)).by_index
+
 pub invariant_of-self-in_err-found : goal.invariant_of-self-in_err-found
 invariant_of-self-in_err-found g c = subst (λ t. AreTrue t c.find.new.self.kept.entries) (sym c.look.ensures.unchanged) (c.find.ensures.still_true (g.R.Rows.content c.self.inside.rows) c.self.invariant)
 

@@ -1,0 +1,103 @@
+//! What is kept of a handle: its values, or their heads alone.
+
+ghost use Rattle.std.specs.Prelude.{◌≡◌, List, ℕ, IfOk, IfSome};
+ghost use Rattle.hdl_limits.specs.Counts.{at_most_u64};
+ghost use Rattle.hdl_rows.specs.Table.{Table, place, at, value_with};
+ghost use Rattle.hdl_cachedrows.specs.Cost as cost;
+ghost use Rattle.hdl_cachedrows.specs.Cache.{AreHeads, IsFound, IsKept};
+
+use crate::cost::entry_cost;
+use hdl_rows::heads::heads_of;
+use hdl_rows::value_with;
+use hdl_value::Value;
+use std::alloc::{AllocError, Global};
+
+/// What is kept of a handle.
+#[derive(Drop)]
+pub(crate) enum Kept {
+    /// All of its values.
+    Values(Vec<Value>),
+    /// The heads of all of its values, which are without data and references.
+    Heads(Vec<Value>),
+}
+
+fn copies(alloc: Global, values: &[Value]) -> Result<Vec<Value>, AllocError>
+    ensures { IfOk result (λ all. all.items ≡ values.now) }
+{
+    let mut all = Vec::with_capacity(alloc, values.len())?;
+    for value in values {
+        all.push(value.copy(alloc)?)?;
+    }
+    Ok(all)
+}
+
+/// A copy of the value with this index, if there is one.
+fn copy_with(alloc: Global, values: &[Value], index: u32) -> Result<Option<Value>, AllocError>
+    ensures { IfOk result (λ value. value ≡ value_with index values.now) }
+{
+    match value_with(values, index) {
+        Some(value) => Ok(Some(value.copy(alloc)?)),
+        None => Ok(None),
+    }
+}
+
+impl Kept {
+    /// A copy of these values of a handle, or of their heads if the values cost more than `most`.
+    pub(crate) fn of(
+        alloc: Global,
+        name: &[u8],
+        values: &[Value],
+        most: usize,
+    ) -> Result<Kept, AllocError>
+        ensures of_table { (t : Table) (h : List ℕ) → IsFound t h values.now → IfOk result (IsKept t h) }
+    {
+        if entry_cost(name, values) > most {
+            Ok(Kept::Heads(heads_of(alloc, values)?))
+        } else {
+            Ok(Kept::Values(copies(alloc, values)?))
+        }
+    }
+
+    /// What it costs to keep this of a handle.
+    pub(crate) fn cost(&self, name: &[u8]) -> usize
+        ensures { result ≡ at_most_u64 (cost.kept_cost name.now self.now) }
+    {
+        match self {
+            Kept::Values(values) => entry_cost(name, values),
+            Kept::Heads(heads) => entry_cost(name, heads),
+        }
+    }
+
+    /// A copy of the values. None: the heads alone are kept, or memory was refused.
+    pub(crate) fn values(&self, alloc: Global) -> Option<Vec<Value>>
+        ensures of_table { (t : Table) (h : List ℕ) → IsKept t h self.now → IfSome result (λ all. IsFound t h all.items) }
+    {
+        match self {
+            Kept::Values(values) => copies(alloc, values).ok(),
+            Kept::Heads(_) => None,
+        }
+    }
+
+    /// The heads of the values. None: memory was refused.
+    pub(crate) fn heads(&self, alloc: Global) -> Option<Vec<Value>>
+        ensures of_table { (t : Table) (h : List ℕ) → IsKept t h self.now → IfSome result (λ all. AreHeads t h all.items) }
+    {
+        match self {
+            Kept::Values(values) => heads_of(alloc, values).ok(),
+            Kept::Heads(heads) => copies(alloc, heads).ok(),
+        }
+    }
+
+    /// A copy of the value at an index, or that there is none. None: the head alone of this value is kept, or memory was refused.
+    pub(crate) fn at(&self, alloc: Global, index: u32) -> Option<Option<Value>>
+        ensures of_table { (t : Table) (h : List ℕ) → IsKept t h self.now → IfSome result (λ value. value ≡ at t (place h index)) }
+    {
+        match self {
+            Kept::Values(values) => copy_with(alloc, values, index).ok(),
+            Kept::Heads(heads) => match value_with(heads, index) {
+                Some(_) => None,
+                None => Some(None),
+            },
+        }
+    }
+}
