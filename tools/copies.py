@@ -155,7 +155,7 @@ def single(folder, file, copied, ports):
         before = octets.read()
     done = copy(file, copied)
     with open(copied, "rb") as octets:
-        yield "what is there stays", (done.returncode, done.stderr[:28], octets.read() == before) == (4, b"copy: a file exists at the c", True)
+        yield "what is there stays", (done.returncode, done.stderr[:28], octets.read() == before) == (4, b"copy: there is a file at the", True)
     done = copy(os.path.join(folder, "none.db"), os.path.join(folder, "new.db"))
     yield "no file", (done.returncode, done.stderr[:36], os.path.exists(os.path.join(folder, "new.db"))) == (4, b"copy: the table's file can't be read", False)
     done = copy(file, os.path.join(folder, "none", "new.db"))

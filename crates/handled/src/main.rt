@@ -240,6 +240,16 @@ fn restore_file(rt: &HostRuntime, from: &str, table: &str) -> Result<u8, Program
     Ok(0)
 }
 
+/// Says on standard error what to do about a faulty tenants text. The fault line is the last one.
+fn with_advice(rt: &HostRuntime, fault: ProgramFault) -> ProgramFault {
+    if fault.is_of_text() {
+        let _ = eprintln!(rt;
+            "the tenants text is refused: `handled check < TEXT` says what is wrong in each line, and what to do"
+        );
+    }
+    fault
+}
+
 /// Does what the command line asks for, and answers the exit status.
 fn run<
     R: Net<Listener = TcpListener, Stream = TcpStream>
@@ -262,7 +272,10 @@ fn run<
         Invocation::Copy { from, to } => copy_file(rt, from.as_str(), to.as_str()),
         Invocation::Restore { from, table } => restore_file(rt, from.as_str(), table.as_str()),
         Invocation::Stop { control } => Ok(stop(rt, control.as_str())),
-        Invocation::Serve(options) => serve(machine, rt, options),
+        Invocation::Serve(options) => match serve(machine, rt, options) {
+            Err(fault) => Err(with_advice(rt, fault)),
+            ended => ended,
+        },
     }
 }
 

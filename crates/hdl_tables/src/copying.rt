@@ -7,6 +7,7 @@
 use crate::fault::TabledFault;
 use crate::pair::{Note, close_noted, open_copy};
 use crate::paths::Paths;
+use crate::reasons::PathReason;
 use std::fmt;
 use std::fs::{File, OpenOptions};
 use std::io::{self, ErrorKind, Read, Write};
@@ -40,13 +41,18 @@ pub enum CopyFault {
 impl fmt::Display for CopyFault {
     fn fmt<W: fmt::Write>(&self, f: &mut fmt::Formatter<W>) -> fmt::Result {
         match self {
-            CopyFault::From(kind) => write!(f, "copy: the table's file can't be read: {kind}"),
+            CopyFault::From(kind) => write!(
+                f,
+                "copy: the table's file can't be read: {}: check its path",
+                PathReason(*kind)
+            ),
             CopyFault::To(kind) => write!(
                 f,
-                "copy: the copy can't be written: {kind}: check its folder, and the room on the disk"
+                "copy: the copy can't be written: {}: check its folder, and the room on the disk",
+                PathReason(*kind)
             ),
             CopyFault::Exists => f.write_str(
-                "copy: a file exists at the copy's path, or at that path with -wal at the end: move it away, or name another path",
+                "copy: there is a file at the path of --to, or at that path with -wal at the end: move it away, or name another path",
             ),
             CopyFault::Busy => f.write_str(
                 "copy: the server moved its log into the file during each of 10 tries: try again when fewer changes come",

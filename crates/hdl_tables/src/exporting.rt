@@ -4,6 +4,7 @@ use crate::closing::Closing;
 use crate::fault::TabledFault;
 use crate::file::FileWork;
 use crate::pair::Note;
+use crate::reasons::PathReason;
 use hdl_export::{ExportFault, LeftOut, export, export_publisher, left_out, left_out_of};
 use hdl_programs::{Fault, INPUT_LIMIT, put_all};
 use hdl_rows::{Owing, Rows};
@@ -83,7 +84,8 @@ impl fmt::Display for WriteFault {
             ),
             WriteFault::Device(kind) => write!(
                 f,
-                "export: the text can't be written: {kind}: check its folder, and the room on the disk"
+                "export: the text can't be written: {}: check its folder, and the room on the disk",
+                PathReason(*kind)
             ),
         }
     }

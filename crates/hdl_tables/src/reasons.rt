@@ -7,6 +7,20 @@ use std::fs::{self, Metadata, OpenOptions};
 use std::io::ErrorKind;
 use std::os::unix::fs::MetadataExt;
 
+/// Why the system refused a path, in words for an operator.
+#[derive(Clone, Copy)]
+pub(crate) struct PathReason(pub(crate) ErrorKind);
+
+impl fmt::Display for PathReason {
+    fn fmt<W: fmt::Write>(&self, f: &mut fmt::Formatter<W>) -> fmt::Result {
+        match self.0 {
+            ErrorKind::NotFound => f.write_str("it isn't there"),
+            ErrorKind::PermissionDenied => f.write_str("this program's user may not"),
+            kind => write!(f, "{kind}"),
+        }
+    }
+}
+
 /// The user that something belongs to, and the user that would open it.
 #[derive(Clone, Copy)]
 pub struct Owner {

@@ -6,6 +6,7 @@ use crate::copying::{CopyFault, copy_both};
 use crate::fault::TabledFault;
 use crate::pair::{Note, close_noted, hold, open_copy};
 use crate::paths::{Paths, folder_of};
+use crate::reasons::PathReason;
 use hdl_lastingrows::{Store, TableFault};
 use hdl_pairs::PairFault;
 use hdl_programs::Fault;
@@ -43,7 +44,11 @@ impl fmt::Display for RestoreFault {
     fn fmt<W: fmt::Write>(&self, f: &mut fmt::Formatter<W>) -> fmt::Result {
         f.write_str("restore: ")?;
         match self {
-            RestoreFault::From(kind) => write!(f, "the copy can't be read: {kind}: check its path"),
+            RestoreFault::From(kind) => write!(
+                f,
+                "the copy can't be read: {}: check its path",
+                PathReason(*kind)
+            ),
             RestoreFault::Busy => f.write_str(
                 "--from is a server's own file, which changed during each try: make a copy of it first",
             ),
@@ -64,7 +69,8 @@ impl fmt::Display for RestoreFault {
             ),
             RestoreFault::Folder(kind) => write!(
                 f,
-                "the folder of the table can't be read: {kind}: make it, or check the path"
+                "the folder of the table can't be read: {}: make it, or check the path",
+                PathReason(*kind)
             ),
             RestoreFault::Owner { owner, group, user } => write!(
                 f,
@@ -72,7 +78,8 @@ impl fmt::Display for RestoreFault {
             ),
             RestoreFault::Place(kind) => write!(
                 f,
-                "the copy can't be put in its place: {kind}: check the folder, and the room on the disk"
+                "the copy can't be put in its place: {}: check the folder, and the room on the disk",
+                PathReason(*kind)
             ),
         }
     }
