@@ -11,7 +11,7 @@ import sys
 
 BLOCK = re.compile(r"^//! ```rust\n//! // (crates/\S+\.rt)\n(.*?)^//! ```$", re.M | re.S)
 # Libraries whose functions are laws alone.
-LAWS = ("hdl_follows",)
+LAWS = ("hdl_follows", "hdl_journal", "hdl_together")
 
 
 def libraries():

@@ -1,0 +1,4 @@
+mod Histories
+mod Merging
+mod Following
+mod Kept

@@ -1,0 +1,4 @@
+pub mod Together
+pub mod Laws
+pub mod Shared
+pub mod SharedLaws
