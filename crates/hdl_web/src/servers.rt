@@ -204,6 +204,12 @@ impl Clerk for OrderCarrier {
 }
 
 impl ChangeServer for OrderCarrier {
+    ghost use Rattle.std.specs.Prelude.{false, []};
+
+    ghost is_observed = { false };
+
+    ghost asked = { λ _. [] };
+
     fn renew(&mut self) {
         for server in &mut self.servers {
             server.session = None;

@@ -1,3 +1,5 @@
 pub mod Items
 pub mod Losses
+pub mod Ones
 pub mod RoundTrip
+pub mod Sendings

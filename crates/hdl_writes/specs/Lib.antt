@@ -2,10 +2,14 @@ pub mod Credentials
 pub mod Fields
 pub mod Data
 pub mod Entry
+pub mod Exchange
 pub mod Laws
+pub mod Orders
 pub mod Plan
 pub mod Record
 pub mod ChangeAnswers
+pub mod Sending
+pub mod Since
 pub mod Words
 pub mod Suffix
 pub mod Shapes

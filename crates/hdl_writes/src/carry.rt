@@ -1,5 +1,19 @@
 //! An order that is carried out.
 
+ghost use Rattle.std.specs.Prelude.{◌≡◌, ◌∷◌, [], Bool, true, false, map, Ok, IfOk, IfNone, IsTrue};
+ghost use Rattle.std.specs.List.{list_all};
+ghost use Rattle.hdl_msg.specs.Message.{add as adding, create as creating, delete as deleting, remove as removing, resolution};
+ghost use Rattle.hdl_msg.specs.RequestBody.{requested_operation};
+ghost use Rattle.hdl_proxy.specs.declared.answer.Keeping.TheVariants.{Never};
+ghost use Rattle.hdl_writes.specs.Orders.{AreAmong, CarriesOrder, MintsBody, Puts, PutsBy};
+ghost use Rattle.hdl_writes.specs.Plan.{is_among, merging, replacing};
+ghost use Rattle.hdl_writes.specs.Record.{record_in};
+ghost use Rattle.hdl_writes.specs.Sending.{CarriesOut, Merges, Replaces, SendsAll, SendsByReading, says_done};
+ghost use Rattle.hdl_writes.specs.Since.{AskedSince};
+
+use crate::asking::{
+    addition, ask_to_read, creation, deletion, indexes_there, make_change, removal, steps_done,
+};
 use crate::change_answers::success;
 use crate::fault::RecordFault;
 use crate::listing::list_answer;
@@ -9,48 +23,11 @@ use crate::plan::{is_among, merging, replacing};
 use crate::record::read_record;
 use crate::service::ChangeServer;
 use crate::stop::{ChangeFault, answer_to_stop};
-use hdl_client::Reply;
-use hdl_limits::{Items, MESSAGE_MAX, Octets, WRITTEN_MAX};
-use hdl_msg::{ContentView, ReplyView, RequestBody, ResponseCode, Values, request_len};
+use hdl_limits::{Octets, WRITTEN_MAX};
+use hdl_msg::{ContentView, ReplyView, RequestBody, ResponseCode, Values};
 use hdl_proxy::{Answer, Keeping, Status, refusal, values_answer};
-use hdl_value::{Value, ValueFault, Wire};
+use hdl_value::{Value, ValueFault};
 use std::alloc::{AllocError, Global};
-
-/// A copy of the order's handle.
-fn handle_of(alloc: Global, order: &Order) -> Result<Octets, AllocError> {
-    Ok(Octets::new(Vec::from_slice(alloc, order.name.sent())?))
-}
-
-fn is_short(body: &RequestBody) -> bool {
-    request_len(Wire::Profile, body) <= MESSAGE_MAX as usize
-}
-
-/// The reply to a request, whatever its code is.
-pub(crate) fn reply_to<S: ChangeServer>(
-    service: &mut S,
-    order: &Order,
-    body: &RequestBody,
-) -> Result<Reply, ChangeFault> {
-    if !is_short(body) {
-        return Err(ChangeFault::TooLong);
-    }
-    Ok(service.ask(body, &order.key)?)
-}
-
-/// Asks for a change. It is done where the reply says so.
-fn make_change<S: ChangeServer>(
-    service: &mut S,
-    order: &Order,
-    body: &RequestBody,
-) -> Result<(), ChangeFault> {
-    let reply = reply_to(service, order, body)?;
-    let view = reply.view();
-    if view.code() == Some(ResponseCode::Success) {
-        Ok(())
-    } else {
-        Err(ChangeFault::Code(view.header.response_code))
-    }
-}
 
 /// One request, and what is answered to it.
 fn carry_one<S: ChangeServer>(
@@ -59,28 +36,15 @@ fn carry_one<S: ChangeServer>(
     order: &Order,
     body: &RequestBody,
     status: Status,
-) -> Result<Answer, AllocError> {
+) -> Result<Answer, AllocError>
+    requires { says_done status ≡ true }
+    ensures asked { AskedSince S.ChangeServer service.old service.new (CarriesOut (SendsAll order.now.key (requested_operation body.now ∷ [])) result) }
+    ensures kept { IfOk result (λ answer. answer.keeping ≡ Never) }
+{
     match make_change(service, order, body) {
         Ok(()) => success(alloc, order.name.sent(), status),
         Err(stop) => answer_to_stop(alloc, order.name.sent(), stop, &[]),
     }
-}
-
-/// Requests one after the other, until one isn't done: how many were done, and why the next one wasn't.
-fn steps_done<S: ChangeServer>(
-    service: &mut S,
-    order: &Order,
-    steps: &[RequestBody],
-) -> (usize, Option<ChangeFault>) {
-    if !steps.iter().all(is_short) {
-        return (0, Some(ChangeFault::TooLong));
-    }
-    for (count, step) in steps.iter().enumerate() {
-        if let Err(stop) = make_change(service, order, step) {
-            return (count, Some(stop));
-        }
-    }
-    (steps.len(), None)
 }
 
 fn carry_steps<S: ChangeServer>(
@@ -88,7 +52,10 @@ fn carry_steps<S: ChangeServer>(
     service: &mut S,
     order: &Order,
     steps: &[RequestBody],
-) -> Result<Answer, AllocError> {
+) -> Result<Answer, AllocError>
+    ensures asked { AskedSince S.ChangeServer service.old service.new (CarriesOut (SendsAll order.now.key (map requested_operation steps.now)) result) }
+    ensures kept { IfOk result (λ answer. answer.keeping ≡ Never) }
+{
     match steps_done(service, order, steps) {
         (_, None) => success(alloc, order.name.sent(), Status::Success),
         (count, Some(stop)) => {
@@ -99,63 +66,9 @@ fn carry_steps<S: ChangeServer>(
 }
 
 /// The indexes of these values.
-fn indexes_in(alloc: Global, mut values: Values<'_>) -> Result<Vec<u32>, ChangeFault> {
-    let mut indexes = Vec::new(alloc);
-    while let Some(cut) = values.next() {
-        match indexes.push(cut.index()) {
-            Ok(()) => {}
-            Err(_) => return Err(ChangeFault::Memory),
-        }
-    }
-    Ok(indexes)
-}
-
-/// The indexes that a reply to the reading of this handle tells.
-fn indexes_in_reply(
-    alloc: Global,
-    handle: &[u8],
-    reply: &ReplyView<'_>,
-) -> Result<Vec<u32>, ChangeFault> {
-    match reply.content {
-        ContentView::Values {
-            handle: answered,
-            values,
-        } if answered == handle => indexes_in(alloc, values),
-        ContentView::Values { .. } => Err(ChangeFault::Silent),
-        _ if reply.code() == Some(ResponseCode::ValueNotFound) => Ok(Vec::new(alloc)),
-        _ => Err(ChangeFault::Code(reply.header.response_code)),
-    }
-}
-
-/// The reply to the reading of these values, or of all where none is named.
-fn ask_to_read<S: ChangeServer>(
-    alloc: Global,
-    service: &mut S,
-    order: &Order,
-    indexes: Items<u32>,
-    types: Items<Octets>,
-) -> Result<Reply, ChangeFault> {
-    let body = RequestBody::Resolution {
-        handle: handle_of(alloc, order)?,
-        indexes,
-        types,
-    };
-    reply_to(service, order, &body)
-}
-
-/// Those of these indexes, or of all, that are there and that the key may read.
-fn indexes_there<S: ChangeServer>(
-    alloc: Global,
-    service: &mut S,
-    order: &Order,
-    asked: Vec<u32>,
-) -> Result<Vec<u32>, ChangeFault> {
-    let types = Items::new(Vec::new(alloc));
-    let reply = ask_to_read(alloc, service, order, Items::new(asked), types)?;
-    indexes_in_reply(alloc, order.name.sent(), &reply.view())
-}
-
-fn indexes_of(alloc: Global, values: &[Value]) -> Result<Vec<u32>, AllocError> {
+fn indexes_of(alloc: Global, values: &[Value]) -> Result<Vec<u32>, AllocError>
+    ensures { IfOk result (λ indexes. indexes.items ≡ map (λ value. value.index) values.now) }
+{
     let mut indexes = Vec::new(alloc);
     for value in values {
         indexes.push(value.index)?;
@@ -163,24 +76,16 @@ fn indexes_of(alloc: Global, values: &[Value]) -> Result<Vec<u32>, AllocError> {
     Ok(indexes)
 }
 
-fn copies(alloc: Global, values: &[Value]) -> Result<Items<Value>, AllocError> {
-    let mut all = Vec::new(alloc);
-    for value in values {
-        all.push(value.copy(alloc)?)?;
-    }
-    Ok(Items::new(all))
-}
-
 fn create<S: ChangeServer>(
     alloc: Global,
     service: &mut S,
     order: &Order,
     values: &[Value],
-) -> Result<Answer, AllocError> {
-    let body = RequestBody::Create {
-        handle: handle_of(alloc, order)?,
-        values: copies(alloc, values)?,
-    };
+) -> Result<Answer, AllocError>
+    ensures asked { AskedSince S.ChangeServer service.old service.new (CarriesOut (SendsAll order.now.key (creating order.now.name values.now ∷ [])) result) }
+    ensures kept { IfOk result (λ answer. answer.keeping ≡ Never) }
+{
+    let body = creation(alloc, order.name.sent(), values)?;
     carry_one(alloc, service, order, &body, Status::Created)
 }
 
@@ -189,11 +94,11 @@ fn add<S: ChangeServer>(
     service: &mut S,
     order: &Order,
     values: &[Value],
-) -> Result<Answer, AllocError> {
-    let body = RequestBody::Add {
-        handle: handle_of(alloc, order)?,
-        values: copies(alloc, values)?,
-    };
+) -> Result<Answer, AllocError>
+    ensures asked { AskedSince S.ChangeServer service.old service.new (CarriesOut (SendsAll order.now.key (adding order.now.name values.now ∷ [])) result) }
+    ensures kept { IfOk result (λ answer. answer.keeping ≡ Never) }
+{
+    let body = addition(alloc, order.name.sent(), values)?;
     carry_one(alloc, service, order, &body, Status::Success)
 }
 
@@ -202,9 +107,12 @@ fn merge<S: ChangeServer>(
     service: &mut S,
     order: &Order,
     values: &[Value],
-) -> Result<Answer, AllocError> {
+) -> Result<Answer, AllocError>
+    ensures asked { AskedSince S.ChangeServer service.old service.new (CarriesOut (Merges order.now.key order.now.name values.now) result) }
+    ensures kept { IfOk result (λ answer. answer.keeping ≡ Never) }
+{
     let asked = indexes_of(alloc, values)?;
-    match indexes_there(alloc, service, order, asked) {
+    match indexes_there(alloc, service, order, &asked) {
         Ok(there) => {
             let steps = merging(alloc, order.name.sent(), &there, values)?;
             carry_steps(alloc, service, order, &steps)
@@ -219,41 +127,34 @@ fn overwrite<S: ChangeServer>(
     service: &mut S,
     order: &Order,
     values: &[Value],
-) -> Result<Answer, AllocError> {
-    let there = match indexes_there(alloc, service, order, Vec::new(alloc)) {
-        Ok(there) => there,
-        Err(stop) => return answer_to_stop(alloc, order.name.sent(), stop, &[]),
-    };
-    if there.len() > WRITTEN_MAX {
-        return answer_to_stop(alloc, order.name.sent(), ChangeFault::TooMany, &[]);
+) -> Result<Answer, AllocError>
+    ensures asked { AskedSince S.ChangeServer service.old service.new (CarriesOut (SendsByReading order.now.key order.now.name [] (λ there. replacing order.now.name there values.now)) result) }
+    ensures kept { IfOk result (λ answer. answer.keeping ≡ Never) }
+{
+    match indexes_there(alloc, service, order, &[]) {
+        Ok(there) if there.len() > WRITTEN_MAX => {
+            answer_to_stop(alloc, order.name.sent(), ChangeFault::TooMany, &[])
+        }
+        Ok(there) => {
+            let steps = replacing(alloc, order.name.sent(), &there, values)?;
+            carry_steps(alloc, service, order, &steps)
+        }
+        Err(stop) => answer_to_stop(alloc, order.name.sent(), stop, &[]),
     }
-    let steps = replacing(alloc, order.name.sent(), &there, values)?;
-    carry_steps(alloc, service, order, &steps)
 }
 
-/// Asks that this handle is created with these values.
-pub(crate) fn ask_to_create<S: ChangeServer>(
-    alloc: Global,
-    service: &mut S,
-    order: &Order,
-    handle: &[u8],
-    values: &[Value],
-) -> Result<(), ChangeFault> {
-    let body = RequestBody::Create {
-        handle: Octets::new(Vec::from_slice(alloc, handle)?),
-        values: copies(alloc, values)?,
-    };
-    make_change(service, order, &body)
-}
-
-/// Creates the handle, or where it is there puts the values in the place of all that it has.
+/// Creates the handle, or if it exists puts the values in the place of all that it has.
 fn replace<S: ChangeServer>(
     alloc: Global,
     service: &mut S,
     order: &Order,
     values: &[Value],
-) -> Result<Answer, AllocError> {
-    match ask_to_create(alloc, service, order, order.name.sent(), values) {
+) -> Result<Answer, AllocError>
+    ensures asked { AskedSince S.ChangeServer service.old service.new (CarriesOut (Replaces order.now.key order.now.name values.now) result) }
+    ensures kept { IfOk result (λ answer. answer.keeping ≡ Never) }
+{
+    let body = creation(alloc, order.name.sent(), values)?;
+    match make_change(service, order, &body) {
         Ok(()) => success(alloc, order.name.sent(), Status::Created),
         Err(ChangeFault::Code(code)) if code == ResponseCode::HandleAlreadyExists.number() => {
             overwrite(alloc, service, order, values)
@@ -263,13 +164,27 @@ fn replace<S: ChangeServer>(
 }
 
 /// The first value whose index isn't among these.
-fn first_unasked(among: &[u32], values: &[Value]) -> Option<RecordFault> {
-    let place = values
-        .iter()
-        .position(|value| !is_among(value.index, among))?;
-    Some(RecordFault::Unasked {
-        place: (place as u64).saturating_add(1),
-    })
+fn first_unasked(among: &[u32], values: &[Value]) -> Option<RecordFault>
+    ensures { IfNone result (IsTrue (list_all (λ value. is_among value.index among.now) values.now)) }
+{
+    let mut place: u64 = 0;
+    for value in values {
+        place = place.saturating_add(1);
+        if !is_among(value.index, among) {
+            return Some(RecordFault::Unasked { place });
+        }
+    }
+    None
+}
+
+/// The first value whose index isn't among those that were named.
+fn unasked(among: &Option<Vec<u32>>, values: &[Value]) -> Option<RecordFault>
+    ensures { IfNone result (AreAmong among.now values.now) }
+{
+    match among {
+        Some(indexes) => first_unasked(indexes, values),
+        None => None,
+    }
 }
 
 /// The values of a body, each among the indexes that were named.
@@ -277,23 +192,46 @@ fn values_of(
     alloc: Global,
     among: &Option<Vec<u32>>,
     body: &[u8],
-) -> Result<Vec<Value>, RecordFault> {
+) -> Result<Vec<Value>, RecordFault>
+    ensures value { IfOk result (λ values. record_in body.now ≡ Ok values.items) }
+    ensures among { IfOk result (λ values. AreAmong among.now values.items) }
+{
     let values = read_record(alloc, body)?;
-    if let Some(indexes) = among {
-        if let Some(fault) = first_unasked(indexes, &values) {
-            return Err(fault);
-        }
+    match unasked(among, &values) {
+        Some(fault) => Err(fault),
+        None => Ok(values),
     }
-    Ok(values)
 }
 
-fn bad_record(alloc: Global, handle: &[u8], fault: RecordFault) -> Result<Answer, AllocError> {
+fn bad_record(alloc: Global, handle: &[u8], fault: RecordFault) -> Result<Answer, AllocError>
+    ensures undone { IfOk result (λ answer. says_done answer.status ≡ false) }
+    ensures kept { IfOk result (λ answer. answer.keeping ≡ Never) }
+{
     if fault == RecordFault::Memory {
         return Err(AllocError);
     }
     let why = format!(in alloc; "The record can't be read: {fault}.")?;
     let code = ResponseCode::ValueInvalid.number();
     refusal(alloc, Status::BadRequest, handle, code, &why)
+}
+
+/// Puts these values into the handle.
+fn put_values<S: ChangeServer>(
+    alloc: Global,
+    service: &mut S,
+    order: &Order,
+    way: WriteMode,
+    values: &[Value],
+) -> Result<Answer, AllocError>
+    ensures asked { AskedSince S.ChangeServer service.old service.new (CarriesOut (PutsBy way order.now.key order.now.name values.now) result) }
+    ensures kept { IfOk result (λ answer. answer.keeping ≡ Never) }
+{
+    match way {
+        WriteMode::Create => create(alloc, service, order, values),
+        WriteMode::Replace => replace(alloc, service, order, values),
+        WriteMode::Merge => merge(alloc, service, order, values),
+        WriteMode::Add => add(alloc, service, order, values),
+    }
 }
 
 fn carry_put<S: ChangeServer>(
@@ -303,16 +241,13 @@ fn carry_put<S: ChangeServer>(
     way: WriteMode,
     among: &Option<Vec<u32>>,
     body: &[u8],
-) -> Result<Answer, AllocError> {
-    let values = match values_of(alloc, among, body) {
-        Ok(values) => values,
-        Err(fault) => return bad_record(alloc, order.name.sent(), fault),
-    };
-    match way {
-        WriteMode::Create => create(alloc, service, order, &values),
-        WriteMode::Replace => replace(alloc, service, order, &values),
-        WriteMode::Merge => merge(alloc, service, order, &values),
-        WriteMode::Add => add(alloc, service, order, &values),
+) -> Result<Answer, AllocError>
+    ensures asked { AskedSince S.ChangeServer service.old service.new (CarriesOut (Puts way among.now order.now.key order.now.name body.now) result) }
+    ensures kept { IfOk result (λ answer. answer.keeping ≡ Never) }
+{
+    match values_of(alloc, among, body) {
+        Ok(values) => put_values(alloc, service, order, way, &values),
+        Err(fault) => bad_record(alloc, order.name.sent(), fault),
     }
 }
 
@@ -321,7 +256,10 @@ fn carry_mint<S: ChangeServer>(
     service: &mut S,
     order: &Order,
     body: &[u8],
-) -> Result<Answer, AllocError> {
+) -> Result<Answer, AllocError>
+    ensures asked { AskedSince S.ChangeServer service.old service.new (CarriesOut (MintsBody order.now.key order.now.name body.now) result) }
+    ensures kept { IfOk result (λ answer. answer.keeping ≡ Never) }
+{
     match read_record(alloc, body) {
         Ok(values) => mint(alloc, service, order, &values),
         Err(fault) => bad_record(alloc, order.name.sent(), fault),
@@ -332,10 +270,11 @@ fn carry_delete<S: ChangeServer>(
     alloc: Global,
     service: &mut S,
     order: &Order,
-) -> Result<Answer, AllocError> {
-    let body = RequestBody::Delete {
-        handle: handle_of(alloc, order)?,
-    };
+) -> Result<Answer, AllocError>
+    ensures asked { AskedSince S.ChangeServer service.old service.new (CarriesOut (SendsAll order.now.key (deleting order.now.name ∷ [])) result) }
+    ensures kept { IfOk result (λ answer. answer.keeping ≡ Never) }
+{
+    let body = deletion(alloc, order.name.sent())?;
     carry_one(alloc, service, order, &body, Status::Success)
 }
 
@@ -344,11 +283,11 @@ fn carry_remove<S: ChangeServer>(
     service: &mut S,
     order: &Order,
     indexes: &[u32],
-) -> Result<Answer, AllocError> {
-    let body = RequestBody::Remove {
-        handle: handle_of(alloc, order)?,
-        indexes: Items::new(Vec::from_slice(alloc, indexes)?),
-    };
+) -> Result<Answer, AllocError>
+    ensures asked { AskedSince S.ChangeServer service.old service.new (CarriesOut (SendsAll order.now.key (removing order.now.name indexes.now ∷ [])) result) }
+    ensures kept { IfOk result (λ answer. answer.keeping ≡ Never) }
+{
+    let body = removal(alloc, order.name.sent(), indexes)?;
     carry_one(alloc, service, order, &body, Status::Success)
 }
 
@@ -366,11 +305,10 @@ fn whole_values(alloc: Global, mut values: Values<'_>) -> Result<Option<Vec<Valu
 }
 
 /// What the reply to a reading with a key says of this handle.
-fn reading_answer(
-    alloc: Global,
-    handle: &[u8],
-    reply: &ReplyView<'_>,
-) -> Result<Answer, AllocError> {
+fn reading_answer(alloc: Global, handle: &[u8], reply: &ReplyView<'_>) -> Result<Answer, AllocError>
+    ensures kept { IfOk result (λ answer. answer.keeping ≡ Never) }
+{
+    let code = reply.header.response_code;
     match reply.content {
         ContentView::Values {
             handle: answered,
@@ -379,20 +317,11 @@ fn reading_answer(
             Some(all) => values_answer(alloc, handle, &all, Keeping::Never),
             None => answer_to_stop(alloc, handle, ChangeFault::Silent, &[]),
         },
-        ContentView::Values { .. } => answer_to_stop(alloc, handle, ChangeFault::Silent, &[]),
-        _ => {
-            let stop = ChangeFault::Code(reply.header.response_code);
-            answer_to_stop(alloc, handle, stop, &[])
+        _ if code == ResponseCode::Success.number() => {
+            answer_to_stop(alloc, handle, ChangeFault::Silent, &[])
         }
+        _ => answer_to_stop(alloc, handle, ChangeFault::Code(code), &[]),
     }
-}
-
-fn type_copies(alloc: Global, types: &[Octets]) -> Result<Items<Octets>, AllocError> {
-    let mut all = Vec::new(alloc);
-    for kind in types {
-        all.push(Octets::new(Vec::from_slice(alloc, kind.as_slice())?))?;
-    }
-    Ok(Items::new(all))
 }
 
 fn carry_read<S: ChangeServer>(
@@ -401,23 +330,28 @@ fn carry_read<S: ChangeServer>(
     order: &Order,
     indexes: &[u32],
     types: &[Octets],
-) -> Result<Answer, AllocError> {
-    let indexes = Items::new(Vec::from_slice(alloc, indexes)?);
-    let types = type_copies(alloc, types)?;
+) -> Result<Answer, AllocError>
+    ensures asked { AskedSince S.ChangeServer service.old service.new (λ xs. (whole : Bool) × SendsAll order.now.key (resolution order.now.name indexes.now types.now ∷ []) xs whole) }
+    ensures kept { IfOk result (λ answer. answer.keeping ≡ Never) }
+{
     match ask_to_read(alloc, service, order, indexes, types) {
         Ok(reply) => reading_answer(alloc, order.name.sent(), &reply.view()),
         Err(stop) => answer_to_stop(alloc, order.name.sent(), stop, &[]),
     }
 }
 
-/// Carries out an order: reads the body of its request, where it takes one, asks for one thing after the other, and makes the answer.
-/// Nothing is asked where the body is refused. Where a request isn't done, none after it is sent, and the answer says what was done.
+/// Carries out an order: reads the body of its request, if it takes one, asks for one thing after the other, and makes the answer.
+/// Nothing is asked if the body is refused. If a request isn't done, none after it is sent, and the answer says what was done. No one may
+/// cache an answer.
 pub fn carry_out<S: ChangeServer>(
     alloc: Global,
     service: &mut S,
     order: &Order,
     body: &[u8],
-) -> Result<Answer, AllocError> {
+) -> Result<Answer, AllocError>
+    ensures asked { AskedSince S.ChangeServer service.old service.new (CarriesOrder order.now body.now result) }
+    ensures kept { IfOk result (λ answer. answer.keeping ≡ Never) }
+{
     service.renew();
     match &order.act {
         Act::Put { way, among } => carry_put(alloc, service, order, *way, among, body),

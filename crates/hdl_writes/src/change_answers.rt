@@ -1,8 +1,11 @@
 //! What is answered to a change. Nothing here is handed a key.
 
-ghost use Rattle.std.specs.Prelude.{◌≡◌, ◌++◌, map, IfOk, OnOk};
+ghost use Rattle.std.specs.Prelude.{◌≡◌, ◌≢◌, false, IfOk};
+ghost use Rattle.hdl_msg.specs.Codes.{response_number};
 ghost use Rattle.hdl_proxy.specs.Answer.{Tells};
+ghost use Rattle.hdl_proxy.specs.declared.answer.Keeping.TheVariants.{Never};
 ghost use Rattle.hdl_writes.specs.ChangeAnswers.{status_of_change, change_words};
+ghost use Rattle.hdl_writes.specs.Sending.{says_done};
 
 use hdl_msg::{RequestBody, ResponseCode};
 use hdl_proxy::{Answer, Media, Status, json_answer, put_text, refusal};
@@ -12,7 +15,8 @@ use std::alloc::{AllocError, Global};
 /// The status of a change's code: what isn't there isn't found, what is there already is a conflict, values and names that are none are
 /// the client's fault, a key that is no administrator or isn't proved isn't authorized, and one that lacks a permission is forbidden.
 pub(crate) fn status_of_change(code: u32) -> Status
-    ensures { result ≡ status_of_change code }
+    ensures status { result ≡ status_of_change code }
+    ensures undone { code ≢ response_number ResponseCode.Success → says_done result ≡ false }
 {
     match ResponseCode::of(code) {
         Some(ResponseCode::Success) => Status::Success,
@@ -87,6 +91,7 @@ fn step_word(body: &RequestBody) -> &'static str {
 /// The answer to a change that was done.
 pub(crate) fn success(alloc: Global, handle: &[u8], status: Status) -> Result<Answer, AllocError>
     ensures told { IfOk result (Tells status Media.Json) }
+    ensures kept { IfOk result (λ answer. answer.keeping ≡ Never) }
 {
     let mut object = Map::new(alloc);
     let code = ResponseCode::Success.number();
@@ -115,6 +120,7 @@ pub(crate) fn failure(
     done: &[RequestBody],
 ) -> Result<Answer, AllocError>
     ensures told { IfOk result (Tells status Media.Json) }
+    ensures kept { IfOk result (λ answer. answer.keeping ≡ Never) }
 {
     if done.is_empty() {
         return refusal(alloc, status, handle, code, why);

@@ -11,7 +11,10 @@
 //! What it promises: `specs/Record.antt` defines the record that a body in JSON means, or the first thing that is wrong with it
 //! (`record_in`), `specs/Credentials.antt` the key that a field means (`key_in`), and `specs/Plan.antt` which requests put values into a
 //! handle, in which order (`merging`, `replacing`); [`read_record`], [`read_key`], [`merging`] and [`replacing`] do just that, want of
-//! memory aside. An order to change has no word in its query but those that `specs/Words.antt` knows ([`begin_with_key`]). Laws: the JSON of a value is read as it ([`written_is_read`]), and a change loses nothing ([`nothing_is_lost`]).
+//! memory aside. An order to change has no word in its query but those that `specs/Words.antt` knows ([`begin_with_key`]). A
+//! [`ChangeServer`] is asked a beginning of what `specs/Orders.antt` says of the order, none after a request that wasn't done. The status
+//! says that all was done exactly if it was, and no one may cache an answer ([`carry_out`]). Laws: the JSON of a value is read as it
+//! ([`written_is_read`]), and a change loses nothing ([`nothing_is_lost`]).
 //!
 //! ```rust
 //! // crates/hdl_web/src/worker.rt
@@ -20,6 +23,7 @@
 //! ```
 #![tactic(auto)]
 
+mod asking;
 mod carry;
 mod change_answers;
 mod credentials;

@@ -1,13 +1,20 @@
 //! The handles of a prefix.
 
-use crate::carry::reply_to;
+ghost use Rattle.std.specs.Prelude.{◌≡◌, ◌∷◌, [], Bool, IfErr, IfOk, None};
+ghost use Rattle.hdl_msg.specs.Message.{list};
+ghost use Rattle.hdl_proxy.specs.declared.answer.Keeping.TheVariants.{Never};
+ghost use Rattle.hdl_writes.specs.Exchange.{reply_of};
+ghost use Rattle.hdl_writes.specs.Sending.{SendsAll, Tries, code_of};
+ghost use Rattle.hdl_writes.specs.Since.{AskedSince};
+
+use crate::asking::{listing, reply_to};
 use crate::change_answers::{failure, status_of_change};
 use crate::order::{Order, Window};
 use crate::service::ChangeServer;
 use crate::stop::{ChangeFault, answer_to_stop};
 use hdl_client::Reply;
 use hdl_limits::Octets;
-use hdl_msg::{ContentView, ReplyView, RequestBody, ResponseCode, Strings};
+use hdl_msg::{ContentView, ReplyView, ResponseCode, Strings};
 use hdl_proxy::{Answer, Status, json_answer, put_text};
 use serde_json::{Map, Value as Json, put};
 use std::alloc::{AllocError, Global};
@@ -88,7 +95,9 @@ fn page_answer(
     page: ListPage,
     window: Option<Window>,
     note: Option<&str>,
-) -> Result<Answer, AllocError> {
+) -> Result<Answer, AllocError>
+    ensures kept { IfOk result (λ answer. answer.keeping ≡ Never) }
+{
     let ListPage { handles, count } = page;
     let window = told_window(window, count);
     let prefix = handle.get(FRONT_LEN..).unwrap_or(handle);
@@ -120,7 +129,9 @@ fn long_answer<S: ChangeServer>(
     service: &S,
     order: &Order,
     window: Option<Window>,
-) -> Result<Answer, AllocError> {
+) -> Result<Answer, AllocError>
+    ensures kept { IfOk result (λ answer. answer.keeping ≡ Never) }
+{
     let handle = order.name.sent();
     match service.copied(order.name.prefix()) {
         Some(copied) => {
@@ -141,20 +152,21 @@ fn listing_answer<S: ChangeServer>(
     order: &Order,
     reply: &ReplyView<'_>,
     window: Option<Window>,
-) -> Result<Answer, AllocError> {
+) -> Result<Answer, AllocError>
+    ensures kept { IfOk result (λ answer. answer.keeping ≡ Never) }
+{
     let handle = order.name.sent();
+    let code = reply.header.response_code;
     match reply.content {
         ContentView::Handles { handles } => {
             let page = page_of(alloc, handles, window)?;
             page_answer(alloc, handle, page, window, None)
         }
-        _ if reply.code() == Some(ResponseCode::Error) => {
-            long_answer(alloc, service, order, window)
+        _ if code == ResponseCode::Error.number() => long_answer(alloc, service, order, window),
+        _ if code == ResponseCode::Success.number() => {
+            answer_to_stop(alloc, handle, ChangeFault::Silent, &[])
         }
-        _ => {
-            let stop = ChangeFault::Code(reply.header.response_code);
-            answer_to_stop(alloc, handle, stop, &[])
-        }
+        _ => answer_to_stop(alloc, handle, ChangeFault::Code(code), &[]),
     }
 }
 
@@ -163,10 +175,14 @@ fn ask_for_list<S: ChangeServer>(
     alloc: Global,
     service: &mut S,
     order: &Order,
-) -> Result<Reply, ChangeFault> {
-    let handle = Octets::new(Vec::from_slice(alloc, order.name.sent())?);
-    let body = RequestBody::List { handle };
-    reply_to(service, order, &body)
+) -> Result<Reply, ChangeFault>
+    ensures asked { AskedSince S.ChangeServer service.old service.new (Tries order.now.key (list order.now.name) (reply_of result)) }
+    ensures unanswered { IfErr result (λ fault. code_of fault ≡ None) }
+{
+    match listing(alloc, order.name.sent()) {
+        Ok(body) => reply_to(service, order, &body),
+        Err(_) => Err(ChangeFault::Memory),
+    }
 }
 
 /// Lists the handles of the prefix whose administrative handle the order names.
@@ -175,7 +191,10 @@ pub(crate) fn list_answer<S: ChangeServer>(
     service: &mut S,
     order: &Order,
     window: Option<Window>,
-) -> Result<Answer, AllocError> {
+) -> Result<Answer, AllocError>
+    ensures asked { AskedSince S.ChangeServer service.old service.new (λ xs. (whole : Bool) × SendsAll order.now.key (list order.now.name ∷ []) xs whole) }
+    ensures kept { IfOk result (λ answer. answer.keeping ≡ Never) }
+{
     match ask_for_list(alloc, service, order) {
         Ok(reply) => listing_answer(alloc, service, order, &reply.view(), window),
         Err(stop) => answer_to_stop(alloc, order.name.sent(), stop, &[]),

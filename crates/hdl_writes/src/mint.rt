@@ -1,6 +1,12 @@
 //! Handles whose suffix is drawn.
 
-use crate::carry::ask_to_create;
+ghost use Rattle.std.specs.Prelude.{◌≡◌, IfOk, IfSome};
+ghost use Rattle.hdl_proxy.specs.declared.answer.Keeping.TheVariants.{Never};
+ghost use Rattle.hdl_writes.specs.Orders.{Mints, MintsOnce};
+ghost use Rattle.hdl_writes.specs.Sending.{CarriesOut};
+ghost use Rattle.hdl_writes.specs.Since.{AskedSince};
+
+use crate::asking::{creation, make_change};
 use crate::change_answers::{failure, success};
 use crate::order::{Order, no_name};
 use crate::service::ChangeServer;
@@ -22,14 +28,18 @@ fn mint_once<S: ChangeServer>(
     service: &mut S,
     order: &Order,
     values: &[Value],
-) -> Result<Option<Answer>, AllocError> {
+) -> Result<Option<Answer>, AllocError>
+    ensures asked { AskedSince S.ChangeServer service.old service.new (MintsOnce order.now.key order.now.name values.now result) }
+    ensures kept { IfOk result (λ made. IfSome made (λ answer. answer.keeping ≡ Never)) }
+{
     let drawn = service.draw();
     let octets = with_suffix(alloc, order.name.sent(), &drawn)?;
     let name = match read_name(alloc, &octets)? {
         Ok(name) => name,
         Err(fault) => return Ok(Some(no_name(alloc, order.name.sent(), fault)?)),
     };
-    match ask_to_create(alloc, service, order, name.sent(), values) {
+    let body = creation(alloc, name.sent(), values)?;
+    match make_change(service, order, &body) {
         Ok(()) => Ok(Some(success(alloc, name.sent(), Status::Created)?)),
         Err(ChangeFault::Code(code)) if code == ResponseCode::HandleAlreadyExists.number() => {
             Ok(None)
@@ -44,7 +54,10 @@ pub(crate) fn mint<S: ChangeServer>(
     service: &mut S,
     order: &Order,
     values: &[Value],
-) -> Result<Answer, AllocError> {
+) -> Result<Answer, AllocError>
+    ensures asked { AskedSince S.ChangeServer service.old service.new (CarriesOut (Mints order.now.key order.now.name values.now) result) }
+    ensures kept { IfOk result (λ answer. answer.keeping ≡ Never) }
+{
     for _ in 0..DRAWN_MOST {
         if let Some(answer) = mint_once(alloc, service, order, values)? {
             return Ok(answer);

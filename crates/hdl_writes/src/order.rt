@@ -1,6 +1,8 @@
 //! What a request that comes with a key asks for.
 
-ghost use Rattle.std.specs.Prelude.{ℕ, List, IfOk};
+ghost use Rattle.std.specs.Prelude.{◌≡◌, ℕ, List, false, IfOk};
+ghost use Rattle.hdl_proxy.specs.declared.answer.Keeping.TheVariants.{Never};
+ghost use Rattle.hdl_writes.specs.Sending.{says_done};
 ghost use Rattle.hdl_proxy.specs.Query.{pairs_of, texts_of};
 ghost use Rattle.hdl_writes.specs.Words.{HasKnownWords, IsChanging};
 
@@ -80,8 +82,12 @@ pub struct Order {
 }
 
 impl Order {
+    ghost use Rattle.hdl_writes.specs.Orders.{changes};
+
     /// Whether the request may change the handle.
-    pub fn changes(&self) -> bool {
+    pub fn changes(&self) -> bool
+        ensures { result ≡ changes self.now.act }
+    {
         !matches!(self.act, Act::List { .. } | Act::Read { .. })
     }
 
@@ -237,13 +243,19 @@ fn listing(alloc: Global, pairs: &[Pair]) -> Result<Act, AddressFault> {
     Ok(Act::List { window })
 }
 
-fn bad_address(alloc: Global, asked: &[u8], why: &str) -> Result<Answer, AllocError> {
+fn bad_address(alloc: Global, asked: &[u8], why: &str) -> Result<Answer, AllocError>
+    ensures undone { IfOk result (λ answer. says_done answer.status ≡ false) }
+    ensures kept { IfOk result (λ answer. answer.keeping ≡ Never) }
+{
     let code = ResponseCode::InvalidHandle.number();
     refusal(alloc, Status::BadRequest, asked, code, why)
 }
 
 /// The answer if what is named is no handle, and why.
-pub(crate) fn no_name(alloc: Global, asked: &[u8], fault: NameFault) -> Result<Answer, AllocError> {
+pub(crate) fn no_name(alloc: Global, asked: &[u8], fault: NameFault) -> Result<Answer, AllocError>
+    ensures undone { IfOk result (λ answer. says_done answer.status ≡ false) }
+    ensures kept { IfOk result (λ answer. answer.keeping ≡ Never) }
+{
     let why = format!(in alloc; "This is no handle: {fault}.")?;
     bad_address(alloc, asked, &why)
 }

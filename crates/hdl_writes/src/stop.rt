@@ -1,5 +1,9 @@
 //! Why a change wasn't done, and what is answered then.
 
+ghost use Rattle.std.specs.Prelude.{◌≡◌, None, false, IfOk, IfSome};
+ghost use Rattle.hdl_proxy.specs.declared.answer.Keeping.TheVariants.{Never};
+ghost use Rattle.hdl_writes.specs.Sending.{IsFailure, code_of, says_done};
+
 use crate::change_answers::{change_words, failure, status_of_change};
 use crate::service::NoReply;
 use hdl_msg::{RequestBody, ResponseCode};
@@ -23,12 +27,16 @@ pub(crate) enum ChangeFault {
 }
 
 impl From<AllocError> for ChangeFault {
+    ghost from_gives = { λ _ fault. code_of fault ≡ None };
+
     fn from(_: AllocError) -> ChangeFault {
         ChangeFault::Memory
     }
 }
 
 impl From<NoReply> for ChangeFault {
+    ghost from_gives = { λ _ fault. code_of fault ≡ None };
+
     fn from(none: NoReply) -> ChangeFault {
         match none {
             NoReply::Memory => ChangeFault::Memory,
@@ -59,7 +67,10 @@ fn unreached_words(done: usize) -> &'static str {
 }
 
 /// The status, the code and the words of a stop after the requests that were done. None: memory was refused.
-fn words_of_stop(stop: ChangeFault, done: usize) -> Option<(Status, u32, &'static str)> {
+fn words_of_stop(stop: ChangeFault, done: usize) -> Option<(Status, u32, &'static str)>
+    requires { IsFailure stop }
+    ensures { IfSome result (λ words. says_done words.0 ≡ false) }
+{
     let error = ResponseCode::Error.number();
     match stop {
         ChangeFault::Code(code) => {
@@ -79,7 +90,11 @@ pub(crate) fn answer_to_stop(
     handle: &[u8],
     stop: ChangeFault,
     done: &[RequestBody],
-) -> Result<Answer, AllocError> {
+) -> Result<Answer, AllocError>
+    requires { IsFailure stop }
+    ensures undone { IfOk result (λ answer. says_done answer.status ≡ false) }
+    ensures kept { IfOk result (λ answer. answer.keeping ≡ Never) }
+{
     match words_of_stop(stop, done.len()) {
         Some((status, code, why)) => failure(alloc, handle, status, code, why, done),
         None => Err(AllocError),
