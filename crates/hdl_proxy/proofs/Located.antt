@@ -4,7 +4,7 @@ use Rattle.std.specs.Global.{Global}
 use Rattle.std.specs.Prelude.{codes}
 use Rattle.std.proofs.lemmas.List.Elements.{All-append, All-cons}
 use Rattle.hdl_value.specs.declared.value.Value.{Value}
-use Rattle.hdl_proxy.specs.Answer.{LeadsTo, Tells, IsLocated, IsWayAt, IsWayBy, IsWayFrom, IsWayOf, IsWayOfValue, IsWayToMeant, Goes, ShowsValues, ShowsFound}
+use Rattle.hdl_proxy.specs.Answer.{LeadsTo, Tells, IsLocated, IsWayAt, IsWayBy, IsWayFrom, IsWayOf, IsWayOfValue, IsWayToMeant, Follows, FollowsUnless, Goes, ShowsValues, ShowsFound}
 use Rattle.hdl_proxy.specs.Link.{IsLink, address_of, path_to, path_to_json, path_to_values}
 use Rattle.hdl_proxy.specs.Status.{status_of_code}
 use Rattle.hdl_proxy.specs.Url.{IsGraphic, extend}
@@ -99,8 +99,15 @@ goes_located : (handle append locatt : List ℕ) (values : List Value) (way : Op
 goes_located handle append locatt values None wrong a w h = tells_located status.Success _ a (λ e. cc) h.told
 goes_located handle append locatt values (Some to) wrong a w h = leads_located handle to a (from_graphic values append locatt to w.0 wrong w.1.1) h.leads
 
+follows_located : (handle append locatt : List ℕ) (values : List Value) (a : Answer) → Follows handle append locatt values a → IsLocated a
+follows_located handle append locatt values a h = goes_located handle append locatt values h.0 h.1 a h.2.0 h.2.1
+
+unless_located : (gone : Option Value) (handle append locatt : List ℕ) (values : List Value) (a : Answer) → FollowsUnless gone handle append locatt values a → IsLocated a
+unless_located None handle append locatt values a h = follows_located handle append locatt values a h
+unless_located (Some gone) handle append locatt values a h = tells_located status.Gone _ a (λ e. cc) h.told
+
 values_located : (form : Form) (handle append locatt : List ℕ) (values : List Value) (a : Answer) → ShowsValues form handle append locatt values a → IsLocated a
-values_located Follow handle append locatt values a h = goes_located handle append locatt values h.0 h.1 a h.2.0 h.2.1
+values_located Follow handle append locatt values a h = unless_located h.0 handle append locatt values a h.1.1
 values_located Page handle append locatt values a h = tells_located status.Success _ a (λ e. cc) h.told
 values_located Json handle append locatt values a h = tells_located status.Success _ a (λ e. cc) h.told
 values_located Pretty handle append locatt values a h = tells_located status.Success _ a (λ e. cc) h.told

@@ -20,8 +20,16 @@ IsNamedIn (Some alias) None = ¬ (IsHandle alias.bytes)
 IsNamedIn (Some alias) (Some target) = IsHandle alias.bytes × (target ≡ alias.bytes)
 
 -- the handle that the alias of these values names: the HS_ALIAS value of the lowest index
+abbrev pub IsAliasAmong : List Value → Option (List ℕ) → Type 0
+IsAliasAmong values target = (first : Option Value) × (IsFirstOf (codes "HS_ALIAS") values first × IsNamedIn first target)
+
+-- none where a value says that the handle is gone
+abbrev pub IsAliasUnless : Option Value → List Value → Option (List ℕ) → Type 0
+IsAliasUnless None values target = IsAliasAmong values target
+IsAliasUnless (Some gone) values target = target ≡ None
+
 abbrev pub IsAliasOf : List Value → Option (List ℕ) → Type 0
-IsAliasOf values target = (first : Option Value) × (IsFirstOf (codes "HS_ALIAS") values first × IsNamedIn first target)
+IsAliasOf values target = (gone : Option Value) × (IsFirstOf (codes "HS_GONE") values gone × IsAliasUnless gone values target)
 
 -- the alias that is followed, where aliases are, and how long others may keep the values that it stands among
 abbrev pub IsHopOf : List Value → Option Hop → Type 0

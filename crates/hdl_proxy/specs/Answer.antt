@@ -1,5 +1,5 @@
 -- What is answered.
-use Rattle.std.specs.Prelude.{◌≡◌, ◌≢◌, ◌⊎◌, ℕ, Bool, true, false, List, [], All, Option, Some, None, MatchOption, Result, codes, option_map, string_bytes}
+use Rattle.std.specs.Prelude.{◌≡◌, ◌≢◌, ◌⊎◌, ◌++◌, ℕ, Bool, true, false, List, [], All, Option, Some, None, MatchOption, Result, codes, option_map, string_bytes}
 use Rattle.std.specs.Borrow.{Bor}
 use Rattle.hdl_value.specs.declared.value.Value.{Value}
 use Rattle.serde_json.specs.Written.{compact_text}
@@ -9,7 +9,7 @@ use Rattle.hdl_proxy.specs.Json.{refusal_json, IsJsonOf, IsPrettyOf}
 use Rattle.hdl_proxy.specs.Keeping.{IsKeepingOf}
 use Rattle.hdl_proxy.specs.Link.{IsWayTo}
 use Rattle.hdl_proxy.specs.Locations.{IsChoice, SaysLocations}
-use Rattle.hdl_proxy.specs.Pages.{refusal_page, refusal_title, redirect_page, IsPageOf}
+use Rattle.hdl_proxy.specs.Pages.{refusal_page, refusal_title, redirect_page, IsGonePage, IsPageOf}
 use Rattle.hdl_proxy.specs.Status.{status_of_code, told_code, refused_words}
 use Rattle.hdl_proxy.specs.Url.{IsGraphic, extend}
 use Rattle.hdl_proxy.specs.declared.answer.Answer.{Answer}
@@ -134,11 +134,27 @@ abbrev pub Goes : List ℕ → List Value → Option (List ℕ) → Note → Ans
 Goes handle values None wrong answer = IsPage handle wrong values answer
 Goes handle values (Some to) wrong answer = LeadsBy handle values to answer
 
--- in this form these values: the way from them, with this behind their URL or to the location with this attribute, where they are to be followed and there
--- is one, and else all of them
+-- A page that says when the handle went, and why, and of these values nothing else. Others may keep it as long as each of these values.
+pub record IsGone (handle : List ℕ) (gone : Value) (values : List Value) (answer : Answer) : Type 0 where
+  pub told : Tells status.Gone media.Page answer
+  pub kept : IsKeepingOf values answer.keeping
+  pub title : answer.title.items ≡ codes "Gone: " ++ handle
+  pub body : IsGonePage handle gone answer.body.items
+
+-- the way from these values, with this behind their URL or to the location with this attribute, where there is one, and else all of them
+abbrev pub Follows : List ℕ → List ℕ → List ℕ → List Value → Answer → Type 0
+Follows handle append locatt values answer =
+    (way : Option (List ℕ)) × (wrong : Note) × (IsWayFrom values append locatt way wrong × Goes handle values way wrong answer)
+
+-- the same, unless a value says that the handle is gone
+abbrev pub FollowsUnless : Option Value → List ℕ → List ℕ → List ℕ → List Value → Answer → Type 0
+FollowsUnless None handle append locatt values answer = Follows handle append locatt values answer
+FollowsUnless (Some gone) handle append locatt values answer = IsGone handle gone values answer
+
+-- in this form these values: where they are to be followed, that they are gone where one says so, and else where they lead
 abbrev pub ShowsValues : Form → List ℕ → List ℕ → List ℕ → List Value → Answer → Type 0
 ShowsValues Follow handle append locatt values answer =
-    (way : Option (List ℕ)) × (wrong : Note) × (IsWayFrom values append locatt way wrong × Goes handle values way wrong answer)
+    (gone : Option Value) × (IsFirstOf (codes "HS_GONE") values gone × FollowsUnless gone handle append locatt values answer)
 ShowsValues Page handle append locatt values answer = IsPage handle note.Nothing values answer
 ShowsValues Json handle append locatt values answer = IsJson handle values answer
 ShowsValues Pretty handle append locatt values answer = IsPretty handle values answer

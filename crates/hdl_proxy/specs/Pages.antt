@@ -213,6 +213,18 @@ IsValuesPart values part = ((values ≡ []) × (part ≡ NO_VALUES.now)) ⊎ ((0
 abbrev pub IsPageOf : List ℕ → Note → List Value → List ℕ → Type 0
 IsPageOf handle note values body = (part : List ℕ) × IsValuesPart values part × (body ≡ name_top handle ++ (note_part note ++ (part ++ (ANOTHER.now ++ json_part handle))))
 
+-- ---- a handle that is gone
+
+-- a link to what is known about it
+unfoldable pub known_part : List ℕ → List ℕ
+known_part name = codes "<p><small><a href=\"" ++ (escaped (path_to_values name) ++ codes "\">What is known about it</a></small></p>\n")
+
+-- the page that says so: why, and when that was written
+abbrev pub IsGonePage : List ℕ → Value → List ℕ → Type 0
+IsGonePage handle gone body =
+    (why : List ℕ) × (written : List ℕ) × IsDataPart gone why × IsWrittenPart gone written
+    × (body ≡ top (codes "What this handle named is gone.") ++ (name_part handle ++ (why ++ (written ++ (ANOTHER.now ++ known_part handle)))))
+
 -- ---- a refusal
 
 -- its title, by the code

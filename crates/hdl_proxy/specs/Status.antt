@@ -3,7 +3,7 @@ use Rattle.std.specs.Prelude.{ℕ, ◌==◌, ◌||◌, Bool, List, codes, eqb, i
 use Rattle.std.specs.List.{ends_with}
 use Rattle.hdl_proxy.specs.declared.answer.Status.{Status}
 use Rattle.hdl_proxy.specs.declared.codes.TheConstants.{SUCCESS, SERVER_BUSY, OPERATION_DENIED, HANDLE_NOT_FOUND, INVALID_HANDLE, VALUE_NOT_FOUND, SERVICE_REFERRAL, TOO_FAR}
-use Rattle.hdl_proxy.specs.declared.answer.Status.TheVariants.{Success, Created, NoContent, Found, NotModified, BadRequest, Unauthorized, Forbidden, NotFound, MethodNotAllowed, RequestTimeout, Conflict, ContentTooLarge, BadGateway, Unavailable}
+use Rattle.hdl_proxy.specs.declared.answer.Status.TheVariants.{Success, Created, NoContent, Found, NotModified, BadRequest, Unauthorized, Forbidden, NotFound, MethodNotAllowed, RequestTimeout, Conflict, Gone, ContentTooLarge, BadGateway, Unavailable}
 
 abbrev pub status_number : Status → ℕ
 status_number Success = 200
@@ -18,6 +18,7 @@ status_number NotFound = 404
 status_number MethodNotAllowed = 405
 status_number RequestTimeout = 408
 status_number Conflict = 409
+status_number Gone = 410
 status_number ContentTooLarge = 413
 status_number BadGateway = 502
 status_number Unavailable = 503

@@ -1,10 +1,10 @@
 //! Handles that stand for other handles.
 
 ghost use Rattle.std.specs.Prelude.{◌≡◌, ◌++◌, IfOk, OnOk, flat_map, option_map, string_bytes};
-ghost use Rattle.hdl_proxy.specs.Alias.{IsAliasOf, IsHop, IsHopIf, hop_words, is_among, is_same, way_words};
+ghost use Rattle.hdl_proxy.specs.Alias.{IsAliasAmong, IsAliasOf, IsHop, IsHopIf, hop_words, is_among, is_same, way_words};
 
 use crate::answer::Keeping;
-use crate::choice::first_alias;
+use crate::choice::{first_alias, first_gone};
 use crate::found::Found;
 use crate::keeping::keeping_of;
 use crate::names::{read_name, text_of};
@@ -20,8 +20,8 @@ pub(crate) struct Hop {
 }
 
 /// The handle that the alias of these values names: that of the lowest index, where it names one.
-fn alias_of(alloc: Global, values: &[Value]) -> Result<Option<Name>, AllocError>
-    ensures { IfOk result (IsAliasOf values.now) }
+fn alias_among(alloc: Global, values: &[Value]) -> Result<Option<Name>, AllocError>
+    ensures { IfOk result (IsAliasAmong values.now) }
 {
     let Some(alias) = first_alias(values) else {
         return Ok(None);
@@ -29,6 +29,16 @@ fn alias_of(alloc: Global, values: &[Value]) -> Result<Option<Name>, AllocError>
     match read_name(alloc, alias.bytes.as_slice())? {
         Ok(name) => Ok(Some(name)),
         Err(_) => Ok(None),
+    }
+}
+
+/// The handle that the alias of these values names, unless one of them says that the handle is gone.
+fn alias_of(alloc: Global, values: &[Value]) -> Result<Option<Name>, AllocError>
+    ensures { IfOk result (IsAliasOf values.now) }
+{
+    match first_gone(values) {
+        Some(_) => Ok(None),
+        None => alias_among(alloc, values),
     }
 }
 

@@ -24,6 +24,7 @@ pub enum Status {
     MethodNotAllowed = 405,
     RequestTimeout = 408,
     Conflict = 409,
+    Gone = 410,
     ContentTooLarge = 413,
     BadGateway = 502,
     Unavailable = 503,

@@ -14,6 +14,9 @@ const LOCATIONS: &[u8] = b"10320/loc";
 /// The type of a value that names another handle, which is asked for in this one's place.
 const ALIAS: &[u8] = b"HS_ALIAS";
 
+/// The type of a value that says why a handle leads nowhere any more.
+const GONE: &[u8] = b"HS_GONE";
+
 /// Whether a value is shown: everyone may read it, and it is no key.
 pub fn is_shown(value: &Value) -> bool
     ensures { result ≡ is_shown value.now }
@@ -91,4 +94,11 @@ pub(crate) fn first_alias(values: &[Value]) -> Option<&Value>
     ensures { IsFirstOf (codes "HS_ALIAS") values.now (option_copied result) }
 {
     first_of(ALIAS, values)
+}
+
+/// The value of the lowest index that says that the handle is gone.
+pub(crate) fn first_gone(values: &[Value]) -> Option<&Value>
+    ensures { IsFirstOf (codes "HS_GONE") values.now (option_copied result) }
+{
+    first_of(GONE, values)
 }

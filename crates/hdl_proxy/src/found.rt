@@ -74,7 +74,7 @@ fn found_in(alloc: Global, handle: &[u8], message: &[u8]) -> Result<Found, Alloc
 }
 
 /// What was answered of this handle, if anything was.
-pub(crate) fn read_answer(
+pub fn read_answer(
     alloc: Global,
     handle: &[u8],
     answered: Result<&[u8], NoAnswer>,

@@ -54,7 +54,8 @@ mod xml;
 
 pub use answer::{Answer, Keeping, Media, Status, told_code};
 pub use choice::{first_url, is_shown};
-pub use found::Found;
+pub use escape::put_escaped;
+pub use found::{Found, read_answer};
 pub use json::{json_answer, put_text, refusal, values_answer};
 pub use laws::text_is_inert;
 pub use names::{read_name, unescape};
@@ -65,5 +66,5 @@ pub use resolver::NoAnswer;
 pub use site::Site;
 pub use step::{HOPS_MOST, next_step};
 pub use tag::with_tag;
-pub use url::is_followed;
+pub use url::{is_followed, path_of};
 pub use words::{KeptFor, usual_permissions};

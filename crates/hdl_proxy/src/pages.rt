@@ -1,10 +1,10 @@
 //! The pages of the proxy.
 
-ghost use Rattle.std.specs.Prelude.{◌≡◌, ◌≤◌, ◌++◌, List, ℕ, IfOk, OnOk, [], filter, length, option_map, string_bytes, take};
-ghost use Rattle.hdl_proxy.specs.Pages.{advice_part, group_head, heading, is_head, is_put, json_part, moment_part, name_part, refusal_title, lead_word, IsTable, written_part, refusal_page, redirect_page, IsFew, IsGroup, IsGroupAt, IsGroupsFrom, IsMany, IsRow, IsWrittenPart, IsSection, IsSections, IsValuesPart, IsPageOf};
+ghost use Rattle.std.specs.Prelude.{◌≡◌, ◌≤◌, ◌++◌, List, ℕ, IfOk, OnOk, [], codes, filter, length, option_map, string_bytes, take};
+ghost use Rattle.hdl_proxy.specs.Pages.{advice_part, group_head, known_part, IsGonePage, heading, is_head, is_put, json_part, moment_part, name_part, refusal_title, lead_word, IsTable, written_part, refusal_page, redirect_page, IsFew, IsGroup, IsGroupAt, IsGroupsFrom, IsMany, IsRow, IsWrittenPart, IsSection, IsSections, IsValuesPart, IsPageOf};
 ghost use Rattle.std.specs.List.{list_any};
 ghost use Rattle.hdl_proxy.specs.Choice.{is_of};
-ghost use Rattle.hdl_proxy.specs.Answer.{IsLocated, LeadsTo, Tells};
+ghost use Rattle.hdl_proxy.specs.Answer.{IsGone, IsLocated, LeadsTo, Tells};
 ghost use Rattle.hdl_proxy.specs.Keeping.{IsKeepingOf};
 ghost use Rattle.hdl_proxy.specs.Status.{advice, ends_with_slash, look_again};
 
@@ -440,4 +440,49 @@ pub(crate) fn values_page(
     page.markup(ANOTHER)?;
     put_json_link(&mut page, name)?;
     Ok(page_answer(Status::Success, keeping_of(values), title, page))
+}
+
+#[tactic(auto, unfolding(crate::specs::Pages::known_part))]
+fn put_known_link(page: &mut Page, name: &Name) -> Result<(), AllocError>
+    ensures { OnOk result (page.new.octets.items ≡ page.old.octets.items ++ known_part name.now) }
+{
+    let to = Link::to_values(page.alloc, name)?;
+    page.markup("<p><small><a href=\"")?;
+    page.text(to.octets())?;
+    page.markup("\">What is known about it</a></small></p>\n")
+}
+
+/// The page of a handle that is gone, by the value that says so.
+fn gone_body(alloc: Global, name: &Name, gone: &Value) -> Result<Page, AllocError>
+    ensures { IfOk result (λ page. IsGonePage name.now gone.now page.octets.items) }
+{
+    let mut page = Page::new(alloc, b"What this handle named is gone.")?;
+    put_name(&mut page, name.sent())?;
+    put_data(&mut page, gone)?;
+    put_written(&mut page, gone)?;
+    page.markup(ANOTHER)?;
+    put_known_link(&mut page, name)?;
+    Ok(page)
+}
+
+fn gone_title(alloc: Global, name: &[u8]) -> Result<Vec<u8>, AllocError>
+    ensures { IfOk result (λ title. title.items ≡ codes "Gone: " ++ name.now) }
+{
+    let mut title = Vec::from_slice(alloc, b"Gone: ")?;
+    title.extend_from_slice(name)?;
+    Ok(title)
+}
+
+/// That a handle is gone, by one of its values: why, and when that was written.
+pub(crate) fn gone_page(
+    alloc: Global,
+    name: &Name,
+    gone: &Value,
+    values: &[Value],
+) -> Result<Answer, AllocError>
+    ensures { IfOk result (IsGone name.now gone.now values.now) }
+{
+    let title = gone_title(alloc, name.sent())?;
+    let page = gone_body(alloc, name, gone)?;
+    Ok(page_answer(Status::Gone, keeping_of(values), title, page))
 }

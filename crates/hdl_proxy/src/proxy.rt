@@ -1,12 +1,13 @@
 //! From a request of HTTP to a question, and from its reply to an answer.
 
 ghost use Rattle.std.specs.Prelude.{◌≡◌, ◌≢◌, IfOk, codes, string_bytes};
-ghost use Rattle.hdl_proxy.specs.Answer.{Answers, Goes, IsLocated, Refuses, ShowsFound, ShowsValues, is_json};
+ghost use Rattle.hdl_proxy.specs.Answer.{Answers, Follows, Goes, IsLocated, Refuses, ShowsFound, ShowsValues, is_json};
 ghost use Rattle.hdl_proxy.specs.Begin.{AsksAddress, AsksFor, IsAnswered, IsBare, IsFile, IsFront, IsLocatedIfAnswered, IsNoHandle, IsOfFile, IsOfHandle, IsOwn, IsReading, LeadsFromPasted, LeadsToName, RefusesMethod, RefusesMethodIn, RefusesRequest, asked_text, fault_sentence, first_keeping, follows_aliases, is_called_back, json_form, page_form, without_slash};
 ghost use Rattle.hdl_proxy.specs.Query.{pairs_of, texts_of};
 ghost use Rattle.hdl_proxy.specs.Status.{refused_words};
 
 use crate::answer::{Answer, Keeping, Media, Status, told_code};
+use crate::choice::first_gone;
 use crate::codes::{
     HANDLE_NOT_FOUND, INVALID_HANDLE, OPERATION_DENIED, SERVER_BUSY, SERVICE_REFERRAL,
     VALUE_NOT_FOUND,
@@ -358,6 +359,19 @@ fn go(alloc: Global, name: &Name, way: Way, values: &[Value]) -> Result<Answer, 
     }
 }
 
+/// Where these values lead, or where that is nowhere the values.
+fn lead_on(
+    alloc: Global,
+    name: &Name,
+    wish: &Wish<'_>,
+    values: &[Value],
+) -> Result<Answer, AllocError>
+    ensures { IfOk result (Follows name.now wish.now.append.now wish.now.locatt.now values.now) }
+{
+    let way = way_from(alloc, values, wish)?;
+    go(alloc, name, way, values)
+}
+
 fn answer_values(
     alloc: Global,
     name: &Name,
@@ -368,10 +382,10 @@ fn answer_values(
     ensures { IfOk result (ShowsValues form name.now wish.now.append.now wish.now.locatt.now values.now) }
 {
     match form {
-        Form::Follow => {
-            let way = way_from(alloc, values, wish)?;
-            go(alloc, name, way, values)
-        }
+        Form::Follow => match first_gone(values) {
+            Some(gone) => pages::gone_page(alloc, name, gone, values),
+            None => lead_on(alloc, name, wish, values),
+        },
         Form::Page => pages::values_page(alloc, name, Note::Nothing, values),
         Form::Json => json::values_answer(alloc, name.sent(), values, keeping_of(values)),
         Form::Pretty => json::pretty_answer(alloc, name.sent(), values, keeping_of(values)),

@@ -55,8 +55,20 @@ ol li { padding: .125rem 0 }
 .find { display: flex; flex-wrap: wrap; gap: .5rem }
 input, button { font: inherit; padding: .5rem .75rem; border: 1px solid var(--soft); border-radius: .3rem; color: inherit; background: var(--paper) }
 input { flex: 1 1 16rem }
+.fields { margin: 0 0 2rem; padding-top: .75rem; border-top: 1px solid var(--line) }
+.fields label { display: block; margin: 0 0 .25rem }
+.fields input { width: 100%; max-width: 44rem }
+.fault { font-weight: 600 }
+.fault:empty { display: none }
+.fault::before { content: \"! \" }
+h2 { font-size: 1.1875rem; margin: 1.5rem 0 .75rem }
+.pair { display: flex; flex-wrap: wrap; gap: 1rem 2rem; margin: 0 0 1.5rem }
+.pair div { flex: 1 1 18rem; min-width: 0 }
+dt { font-size: .875rem; color: var(--soft) }
+dd { margin: 0; overflow-wrap: anywhere }
 ::placeholder { color: var(--soft); opacity: 1 }
 button { border-color: var(--jade); color: var(--paper); background: var(--jade) }
+.less { color: var(--jade); background: var(--paper) }
 @media (max-width: 40rem) {
 thead { position: absolute; width: 1px; height: 1px; overflow: hidden; clip-path: inset(50%) }
 tbody tr { display: block; padding: .6rem 0; border-bottom: 1px solid var(--line) }
