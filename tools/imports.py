@@ -1,9 +1,10 @@
-"""imports.py: imports CSV files by the proved program crates/hdl/out/hdl (`hdl import`) into the program crates/handled/out/handled, and compares what it says, its exit status, and the octets of
-what is resolved afterwards: whole files, each fault of a row told with its line while the others go on, files that are imported again or whose import was killed on the way, keys that are refused, and
-a server that goes away. Its last line is 'N passed, M failed', a case counting one."""
+"""imports.py: imports CSV files by the proved program crates/hdl/out/hdl (`hdl import`, `hdl replace`, `hdl export`) into the program crates/handled/out/handled, and compares what it says, its exit status, and the octets of
+what is resolved afterwards: whole files, each fault of a row told with its line while the others go on, files that are imported again or whose import was killed on the way, updates with what they
+change and leave, URLs that are replaced and brought back, values that are exported and read back, keys that are refused, and a server that goes away. A dry update is asked of a server that counts by their codes the requests that it gets. Its last line is 'N passed, M failed', a case counting one."""
 
 import contextlib
 import itertools
+import json
 import os
 import re
 import socket
@@ -113,6 +114,11 @@ def whole(port):
     yield "a file", run(port, WHOLE) == (0, "4 created, 0 there already, 0 failed\n", "") and are_there(port, WHOLE_VALUES)
     yield "indexes and permissions", run(port, PLACED) == (0, "1 created, 0 there already, 0 failed\n", "") and are_there(port, PLACED_VALUES)
     yield "no TTL", run(port, b"handle,type,data\n10/day,URL,https://example.org/\n") == (0, "1 created, 0 there already, 0 failed\n", "") and are_there(port, {b"10/day": [url(1, b"https://example.org/"), administrator()]})
+    # as spreadsheets write it where a comma is the decimal mark: semicolons, words of the header in any letters, and rows of nothing
+    excel = b"\xef\xbb\xbfHandle;Type;DATA;ttl\r\n10/excel;URL;https://example.org/a,b;60\r\n;;;\r\n10/excel;TITLE;\"a; b\";\r\n;;;\r\n"
+    values = [url(1, b"https://example.org/a,b", 60), wire.value(2, b"TITLE", b"a; b", OPEN, 3600), administrator()]
+    yield "a spreadsheet's file", run(port, excel, more=["--ttl", "3600"]) == (0, "1 created, 0 there already, 0 failed\n", "") and are_there(port, {b"10/excel": values})
+    yield "a TTL for all", run(port, b"handle,type,data\n10/ttl,URL,a\n", more=["--ttl", "0"]) == (0, "1 created, 0 there already, 0 failed\n", "") and are_there(port, {b"10/ttl": [url(1, b"a", 0), administrator()]})
     yield "the header alone", run(port, b"handle,type,data,ttl\n") == (0, "0 created, 0 there already, 0 failed\n", "")
 
 
@@ -130,7 +136,7 @@ def again(port):
 HEAD = "handle,index,type,data,ttl,permissions"
 GOOD = "10/good%d,1,URL,https://example.org/,86400,1110"
 QUOTE = "a quote isn't closed: put a field with a quote into quotes, and double its own quotes"
-FIELDS = "the line has more or fewer fields than the header: put a field with a comma into quotes"
+FIELDS = "the line has more or fewer fields than the header: put a field with a comma or semicolon into quotes"
 RETURN = "the line contains a CR: end lines with LF or CR LF"
 TEXT = "the data isn't text on one line"
 SPACE = "the data begins or ends with a space: create such a value with `hdl batch`"
@@ -194,22 +200,23 @@ def faults(port):
     yield "octets that are no UTF-8", run(port, octets) == (1, "line 2: 31302fff: the name is not UTF-8\nline 3: 10/latin: the data isn't UTF-8: save the file as CSV UTF-8\n0 created, 0 there already, 2 failed\n", "")
 
 
-COLUMN = "hdl: line 1: the header lacks a column: it needs handle, type and data, and may have ttl, index and permissions\n"
-LETTERS = "hdl: line 1: a column's name has capitals or spaces: write handle, type, data, ttl, index or permissions\n"
-BETWEEN = "hdl: line 1: the columns are separated by %s: save the file as CSV with commas\n"
+COLUMN = "hdl: line 1: the header lacks the column %s: it needs handle, type and data, and may have ttl, index and permissions, with commas or semicolons between\n"
+SPACES = "hdl: line 1: spaces stand around the name of the column %s: take them out\n"
 
 
 def unsent(port):
     """Nothing is sent where the file or the key can't be read: nobody listens here."""
-    yield "an empty file", run(port, b"") == (2, "", COLUMN)
-    yield "a header without a column", run(port, b"handle,type,ttl\n10/a,URL,1\n") == (2, "", COLUMN)
-    yield "semicolons", run(port, b"handle;type;data;ttl\n") == (2, "", BETWEEN % ";")
-    yield "tabs", run(port, b"handle\ttype\tdata\tttl\r\n") == (2, "", BETWEEN % "tabs")
+    yield "an empty file", run(port, b"") == (2, "", COLUMN % "handle")
+    yield "a header without a column", run(port, b"handle,type,ttl\n10/a,URL,1\n") == (2, "", COLUMN % "data")
+    yield "semicolons and commas", run(port, b"handle;type;data;a note, or none\n") == (2, "", COLUMN % "handle")
+    yield "tabs", run(port, b"handle\ttype\tdata\tttl\r\n") == (2, "", "hdl: line 1: the columns are separated by tabs: save the file as CSV with commas\n")
     yield "UTF-16", run(port, "\ufeffhandle,type,data\r\n".encode("utf-16-le")) == (2, "", "hdl: line 1: the file is UTF-16: save it as CSV UTF-8\n")
-    for head in (b"Handle,type,data", b"handle,type,data,TTL", b"handle, type,data,ttl", b"handle,type,data,ttl,Index"):
-        yield "a column's name that is nearly right", run(port, head + b"\n") == (2, "", LETTERS)
+    for head, name in ((b"handle , type,data", "handle"), (b"handle, type,data,ttl", "type"), (b"handle;type;data;ttl; Index", "index")):
+        yield "a column's name that is nearly right", run(port, head + b"\n") == (2, "", SPACES % name)
     yield "lines that end with CR", run(port, b"handle,type,data,ttl\r10/a,URL,a,1\r") == (2, "", "hdl: line 1: %s\n" % RETURN)
-    yield "a column twice", run(port, b"handle,type,data,ttl,data\n") == (2, "", "hdl: line 1: the header names a column twice\n")
+    yield "a column twice", run(port, b"handle,type,data,ttl,Data\n") == (2, "", "hdl: line 1: the header names the column data twice\n")
+    for ttl in ("", "a day", "+1", "4294967296"):
+        yield "a TTL that is none", run(port, WHOLE, more=["--ttl", ttl]) == (2, "", "hdl: --ttl isn't a number of seconds below 4294967296\n")
     yield "a key that is none", run(port, WHOLE, key="10/a") == (2, "", "hdl: a key isn't INDEX:HANDLE, such as 300:0.NA/10\n")
     yield "no secret", run(port, WHOLE, secret="") == (2, "", "hdl: the secret is missing: set HDL_SECRET, or write it on the first line of standard input, or, in a batch, on the line after AUTHENTICATE\n")
     done = subprocess.run([PROGRAM, "import", "--csv", "/none/file.csv", "--key", KEY], capture_output=True, check=False, text=True, env={**os.environ, "HDL_SECRET": SECRET})
@@ -219,7 +226,7 @@ def unsent(port):
     yield "a dry run", run(port, WHOLE, more=["--dry-run"], secret="") == (0, "4 could be created, 0 failed; nothing was sent\n", "")
     faulty = b"handle,type,data,ttl\n10/a,URL,a,x\n10/b,URL,b,1\n"
     yield "a dry run of faults", run(port, faulty, more=["--dry-run"]) == (1, "line 2: 10/a: the TTL isn't a number\n1 could be created, 1 failed; nothing was sent\n", "")
-    yield "a dry run of a faulty header", run(port, b"handle\n", more=["--dry-run"]) == (2, "", COLUMN)
+    yield "a dry run of a faulty header", run(port, b"handle\n", more=["--dry-run"]) == (2, "", COLUMN % "type")
 
 
 REFUSED = "hdl: the server refuses the key: check --key and its secret; later rows were not tried\n"
@@ -264,6 +271,172 @@ def killed(port):
     yield "all are there", are_there(port, {b"10/m%06d" % number: [url(1, b"https://example.org/%d" % number), administrator()] for number in looked})
 
 
+# A handle that is there, rows that are wanted of it and of others, and what is there afterwards: the value with index 2 isn't named, and stays.
+KNOWN = [url(1, b"https://example.org/old", 600), wire.value(2, b"EMAIL", b"archive@example.org", OPEN, 600), wire.value(3, b"NOTE", b"kept", KEPT, 60), administrator()]
+WANTED = b"""handle,index,type,data,ttl,permissions
+10/known,1,URL,https://example.org/new,600,1110
+10/known,3,NOTE,kept,60,1100
+10/known,7,TITLE,A title,60,1110
+10/same,1,URL,https://example.org/same,60,1110
+10/unknown,5,URL,https://example.org/unknown,60,1110
+"""
+STEPS = ("line 2: 10/known: %s\n- 1 URL 600 1110 UTF8 https://example.org/old\n+ 1 URL 600 1110 UTF8 https://example.org/new\n"
+         "line 2: 10/known: %s\n+ 7 TITLE 60 1110 UTF8 A title\n")
+SENT = "would be created, 1 changed, 1 there already, 0 failed; only questions were sent\n"
+
+
+def create(port, handle, values):
+    with client_of(port) as client:
+        assert client.asked(wire.message(wire.CREATE, wire.string(handle) + wire.listed(values)))[0] == wire.SUCCESS
+
+
+def update(port, octets, *more):
+    return run(port, octets, more=["--update", *more])
+
+
+def updates(port):
+    """What differs is changed, what lacks is added, what isn't named stays, and each is said."""
+    create(port, b"10/known", KNOWN)
+    create(port, b"10/same", [url(1, b"https://example.org/same", 60), administrator()])
+    before = {b"10/known": KNOWN, b"10/unknown": None}
+    told = STEPS % ("would be changed", "would be added")
+    yield "a dry update", update(port, WANTED, "--dry-run") == (0, "line 6: 10/unknown: would be created\n" + told + "1 " + SENT, "") and are_there(port, before)
+    after = {b"10/known": [url(1, b"https://example.org/new", 600), *KNOWN[1:3], wire.value(7, b"TITLE", b"A title", OPEN, 60), KNOWN[3]],
+             b"10/same": [url(1, b"https://example.org/same", 60), administrator()], b"10/unknown": [url(5, b"https://example.org/unknown", 60), administrator()]}
+    yield "an update", update(port, WANTED) == (0, STEPS % ("changed", "added") + "1 created, 1 changed, 1 there already, 0 failed\n", "") and are_there(port, after)
+    yield "the same update again", update(port, WANTED) == (0, "0 created, 0 changed, 3 there already, 0 failed\n", "") and are_there(port, after)
+    # a file without ttl and permissions says nothing of them
+    place = b"handle,index,type,data\n10/known,1,URL,https://example.org/newer\n10/known,3,NOTE,secret no more\n"
+    newer = {b"10/known": [url(1, b"https://example.org/newer", 600), KNOWN[1], wire.value(3, b"NOTE", b"secret no more", KEPT, 60), *after[b"10/known"][3:]]}
+    said = ("line 2: 10/known: changed\n- 1 URL 600 1110 UTF8 https://example.org/new\n+ 1 URL 600 1110 UTF8 https://example.org/newer\n"
+            "- 3 NOTE 60 1100 UTF8 kept\n+ 3 NOTE 60 1100 UTF8 secret no more\n0 created, 1 changed, 0 there already, 0 failed\n")
+    yield "what no column says stays", update(port, place) == (0, said, "") and are_there(port, newer)
+    for words in ([], ["--ttl", "600"]):
+        status, out, err = update(port, b"handle,index,type,data\n10/known,7,TITLE,A title\n", *words)
+        yield "a TTL that is given is wanted", (status, out.splitlines()[-1], err) == (0, "0 created, %d changed, %d there already, 0 failed" % ((1, 0) if words else (0, 1)), "")
+
+
+def refusals(port):
+    """What an update doesn't change."""
+    create(port, b"10/typed", [wire.value(1, b"TITLE", b"A title", OPEN, 60), wire.value(2, b"HS_SECKEY", SECRET.encode(), KEPT, 60), administrator()])
+    create(port, b"10/hidden", [url(1, b"https://example.org/", 60, 0x00), administrator()])
+    create(port, b"10/other", [url(1, b"https://example.org/", 60), administrator(100, b"\x00\x01")])
+    before = {b"10/typed": None, b"10/other": [url(1, b"https://example.org/", 60), administrator(100, b"\x00\x01")]}
+    with client_of(port) as client:
+        before[b"10/typed"] = values_of(client, b"10/typed")
+    yield "another type", update(port, b"handle,type,data\n10/typed,URL,a\n") == (
+        1, "line 2: 10/typed: the value with index 1 has another type: name the indexes in a column index\n0 created, 0 changed, 0 there already, 1 failed\n", "")
+    yield "a key", update(port, b"handle,index,type,data\n10/typed,2,URL,a\n") == (
+        1, "line 2: 10/typed: the value with index 2 is a key: change it with `hdl batch`\n0 created, 0 changed, 0 there already, 1 failed\n", "")
+    yield "a value that no one reads", update(port, b"handle,index,type,data\n10/hidden,1,URL,a\n") == (1, "line 2: 10/hidden: 201 value already exists\n0 created, 0 changed, 0 there already, 1 failed\n", "")
+    rows = b"handle,index,type,data,ttl\n10/other,1,URL,a,60\n10/latest,1,URL,a,60\n10/bad,1,URL,,60\n"
+    said = "line 4: 10/bad: the data is empty: create such a value with `hdl batch`\nline 2: 10/other: 401 access denied\n1 created, 0 changed, 0 there already, 2 failed\n"
+    yield "a key that may not", update(port, rows) == (1, said, "") and are_there(port, {**before, b"10/latest": [url(1, b"a", 60), administrator()]})
+    yield "a wrong secret", run(port, b"handle,index,type,data\n10/known,3,NOTE,x\n", secret="wrong", more=["--update"])[0] == 1
+
+
+def questions():
+    """A dry update sends nothing but questions, and answers to their challenges: a server counts what it gets, and says that nothing is there."""
+    got = []
+    with socket.create_server(("127.0.0.1", 0)) as listener:
+        def serve():
+            with listener.accept()[0] as stream, stream.makefile("rb") as octets:
+                while envelope := octets.read(20):
+                    message = octets.read(int.from_bytes(envelope[16:20], "big"))
+                    got.append(int.from_bytes(message[:4], "big"))
+                    stream.sendall(wire.frame(wire.message(got[-1], wire.number(0), wire.ABSENT), request=int.from_bytes(envelope[8:12], "big")))
+        thread = threading.Thread(target=serve, daemon=True)
+        thread.start()
+        status, out, _ = update(listener.getsockname()[1], WANTED, "--dry-run")
+        thread.join(10)
+    yield "a dry update asks and no more", (status, got) == (0, [wire.RESOLVE] * 3) and out.endswith("\n3 would be created, 0 changed, 0 there already, 0 failed; only questions were sent\n")
+
+
+def hdl(port, *words, key=KEY, secret=SECRET, given=b""):
+    """The exit status and both outputs of another command, with a key and a server if it takes them."""
+    asked = ["--key", key, "--server", "127.0.0.1:%d" % port] if port else []
+    done = subprocess.run([PROGRAM, *words, *asked], input=given, env={**os.environ, "HDL_SECRET": secret}, capture_output=True, check=False, timeout=60 * servers.SLOWER)
+    assert "--keys" in words or SECRET.encode() not in done.stdout + done.stderr
+    return done.returncode, done.stdout.decode(), done.stderr.decode()
+
+
+OLD, NEW = "https://old.example/", "https://new.example/x/"
+# URLs that begin so, one that only has it further on, one of another type, and one with a comma and quotes.
+MOVED = {
+    b"10/move-1": [url(1, OLD.encode() + b"1", 600), url(2, b"https://example.org/?" + OLD.encode(), 60), wire.value(3, b"NOTE", OLD.encode(), OPEN, 60), administrator()],
+    b"10/move-2": [url(4, OLD.encode() + b'a,"b";c', 60, KEPT), url(7, OLD.encode(), 0), administrator()],
+    b"10/move-3": [url(1, b"https://example.org/", 60), administrator()],
+    b"10/move-4": [wire.value(1, b"EMAIL", b"a@example.org", OPEN, 60), administrator()],
+}
+
+
+def moved(handle):
+    """The same values afterwards, by their octets."""
+    return [value if value[8:12] == b"NOTE" or OLD.encode() != value[15:15 + len(OLD)] else
+            url(int.from_bytes(value[:4], "big"), NEW.encode() + value[15 + len(OLD):-18], int.from_bytes(value[-17:-13], "big"), value[-13]) for value in MOVED[handle]]
+
+
+def replaces(port):
+    """URLs that begin with the first text begin with the second, all else stays, and the file for undoing brings it back."""
+    for handle, values in MOVED.items():
+        create(port, handle, values)
+    after = {handle: moved(handle) for handle in MOVED}
+    assert sum(after[handle] != MOVED[handle] for handle in MOVED) == 2
+    lines = ["10/move-1: %%s\n- 1 URL 600 1110 UTF8 %s1\n+ 1 URL 600 1110 UTF8 %s1\n" % (OLD, NEW),
+             '10/move-2: %%s\n- 4 URL 60 1100 UTF8 %sa,"b";c\n+ 4 URL 60 1100 UTF8 %sa,"b";c\n- 7 URL 0 1110 UTF8 %s\n+ 7 URL 0 1110 UTF8 %s\n' % (OLD, NEW, OLD, NEW)]
+    with tempfile.TemporaryDirectory() as room:
+        undo, names = os.path.join(room, "undo.csv"), os.path.join(room, "names")
+        with open(names, "wb") as file:
+            file.write(b"10/move-1\r\n10/move-2\n\n10/move-3\n10/move-4\n")
+        status, out, err = hdl(port, "replace", "10", OLD, NEW, "--dry-run", "--handles", names, "--undo", undo)
+        end = "2 would be changed, 2 have no such URL, 0 failed; only questions were sent\n"
+        yield "a dry replacement", (status, out, err, os.path.exists(undo)) == (0, "".join(line % "would be changed" for line in lines) + end, "", False) and are_there(port, MOVED)
+        status, out, err = hdl(port, "replace", "0.NA/10", OLD, NEW, "--undo", undo)
+        found = re.fullmatch(re.escape("".join(line % "changed" for line in lines)) + r"2 changed, (\d+) have no such URL, 0 failed\n", out)
+        yield "a replacement of all that is listed", (status, err) == (0, "") and bool(found) and int(found[1]) > 2 and are_there(port, after)
+        with open(undo, "rb") as file:
+            kept = file.read()
+        row = "handle,index,type,data,ttl,permissions\n10/move-1,1,URL,%s1,600,1110\n10/move-2,4,URL,\"%sa,\"\"b\"\";c\",60,1100\n10/move-2,7,URL,%s,0,1110\n"
+        yield "the old values", kept == (row % (OLD, OLD, OLD)).encode()
+        yield "a file that is there", hdl(port, "replace", "10", OLD, NEW, "--undo", undo)[::2] == (
+            2, "hdl: the file for --undo can't be made: File exists (os error 17): name a file that isn't there\n")
+        yield "the same again", hdl(port, "replace", "10", OLD, NEW, "--handles", names) == (0, "0 changed, 4 have no such URL, 0 failed\n", "") and are_there(port, after)
+        yield "undone", update(port, kept)[::2] == (0, "") and are_there(port, MOVED)
+        with open(names, "wb") as file:
+            file.write(b"10/none\n20/a\nno handle\n")
+        said = "10/none: 100 handle not found\n20/a: not a handle of this prefix\nno handle: not a handle of this prefix\n0 changed, 0 have no such URL, 3 failed\n"
+        yield "handles that aren't there", hdl(port, "replace", "10", OLD, NEW, "--handles", names) == (1, said, "")
+        yield "no file of handles", hdl(port, "replace", "10", OLD, NEW, "--handles", undo + ".none")[::2] == (2, "hdl: the file of handles can't be read: No such file or directory (os error 2)\n")
+    yield "a wrong secret for a replacement", hdl(port, "replace", "10", OLD, NEW, secret="wrong")[0] == 1
+    yield "nothing to replace", hdl(port, "replace", "10", "", NEW) == (2, "", "hdl: what is replaced is empty: say how the URLs begin\n")
+    yield "no prefix", hdl(port, "replace", "10/a", OLD, NEW) == (2, "", "hdl: the prefix isn't one: write it as 10 or 0.NA/10\n")
+
+
+# A text with values that rows say, one of octets that are no text, and a key.
+EXPORTED = {
+    b"10/e-1": [url(1, b"https://example.org/?a=1,2;3", 600), wire.value(2, b"TITLE", 'Of "quotes" \u0416'.encode(), KEPT, 0), administrator()],
+    b"10/e,2": [wire.value(1, b"HS_VLIST", wire.listed([wire.reference(b"0.NA/10", 300)]), OPEN, 60), administrator()],
+}
+UNSAID = wire.value(9, b"PICTURE", b"\x00\xff", OPEN, 60)
+
+
+def exports(port):
+    """What is exported is read back as the same values, and no key is among it unless keys are asked for."""
+    text = tenants(port) + wire.text(wire.value_line(handle, value) for handle, values in EXPORTED.items() for value in values)
+    status, rows, err = hdl(None, "export", "--csv", given=text)
+    yield "an export", (status, err) == (0, "hdl: 6 values written, 1 keys left out, 0 that no row says\n") and len(rows.splitlines()) == 7
+    yield "an export that is read back", run(port, rows.encode(), more=["--update"])[::2] == (0, "") and are_there(port, EXPORTED)
+    yield "keys, if they are asked for", SECRET in hdl(None, "export", "--keys", given=text)[1]
+    text += wire.text([wire.value_line(b"10/e-3", UNSAID)])
+    status, rows, err = hdl(None, "export", given=text)
+    yield "a value that no row says", (status, err.splitlines()[0]) == (1, "hdl: 10/e-3: no row of a CSV file says the value with index 9: --json does") and len(rows.splitlines()) == 7
+    status, objects, err = hdl(None, "export", "--json", given=text)
+    found = [json.loads(line) for line in objects.splitlines()]
+    wanted = [{"handle": "10/e-1", "index": 2, "type": "TITLE", "format": "UTF8", "data": 'Of "quotes" \u0416', "ttl": 0, "permissions": "1100"},
+              {"handle": "10/e-3", "index": 9, "type": "PICTURE", "format": "HEX", "data": "00ff", "ttl": 60, "permissions": "1110"}]
+    yield "an export as JSON", (status, len(found)) == (0, 7) and all(one in found for one in wanted)
+
+
 def closed():
     """A server that closes on the way."""
     with socket.create_server(("127.0.0.1", 0)) as listener:
@@ -284,7 +457,7 @@ def main():
         (nobody,) = servers.free_ports(1)
         # an unproved program takes minutes for so many handles
         large = [] if servers.IS_UNPROVED else killed(port)
-        return servers.tally(itertools.chain(whole(port), again(port), faults(port), unsent(nobody), keys(port), large, closed()))
+        return servers.tally(itertools.chain(whole(port), again(port), faults(port), updates(port), refusals(port), replaces(port), exports(port), questions(), unsent(nobody), keys(port), large, closed()))
 
 
 if __name__ == "__main__":

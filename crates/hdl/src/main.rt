@@ -3,7 +3,9 @@
 //! ```text
 //! hdl resolve HANDLE [--index N].. [--type TYPE]..    list, create, delete, add, remove, modify likewise: one request of a server
 //! hdl batch < BATCH                                   many requests of a server, over one connection
-//! hdl import --csv FILE --key INDEX:HANDLE            a handle for the rows of each, over one connection
+//! hdl import --csv FILE --key INDEX:HANDLE            a handle for the rows of each, over one connection; --update changes those that exist
+//! hdl replace PREFIX OLD NEW --key INDEX:HANDLE       URLs that begin otherwise
+//! hdl export < TENANTS                                the values of a tenants text as rows of a CSV file, or as JSON
 //! hdl explain [--keys] < LINES                        each line of a script, of what handled prints, or of octets alone, in words
 //! hdl script < WORDS, hdl tenants < WORDS             words to the lines that handled takes
 //! hdl init PREFIX.., hdl key                          a tenants text in words for new publishers; a fresh secret
@@ -18,8 +20,9 @@
 mod words;
 
 use hdl_commands::{
-    BatchFault, Printout, ask_site, explain, fresh_secret, import_file, make_site, run_batch_text,
-    run_question, show_site, write_fresh_tenants, write_script, write_tenants,
+    BatchFault, Printout, ask_site, explain, export_values, fresh_secret, import_file, make_site,
+    replace_urls, run_batch_text, run_question, show_site, write_fresh_tenants, write_script,
+    write_tenants,
 };
 use hdl_value::Wire;
 use std::io::{self, Read};
@@ -118,6 +121,8 @@ fn run(rt: &HostRuntime) -> io::Result<u8> {
         Invocation::Ask(question) => Ok(run_question(rt, &question)),
         Invocation::Batch { server, wire } => batch_all(rt, &server, wire),
         Invocation::Import(import) => Ok(import_file(rt, &import)),
+        Invocation::Replace(replacement) => Ok(replace_urls(rt, &replacement)),
+        Invocation::Export { table, shows_keys } => Ok(export_values(rt, table, shows_keys)),
         Invocation::Script => script_all(rt),
         Invocation::Tenants => tenants_all(rt),
         Invocation::Init { wire, prefixes } => init(rt, wire, &prefixes),

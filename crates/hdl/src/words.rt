@@ -1,7 +1,7 @@
 //! The words of the command line.
 
 use clap::{Arg, ArgAction, ArgMatches, Command, Error};
-use hdl_commands::{Import, Inquiry, SiteWords, operation_in};
+use hdl_commands::{Import, Inquiry, Replacement, SiteWords, Table, operation_in};
 use hdl_msg::OpCode;
 use hdl_programs::{VERSION, status_of_words, words_of};
 use hdl_value::Wire;
@@ -21,6 +21,10 @@ pub enum Invocation {
     Batch { server: String, wire: Wire },
     /// The handles of a CSV file.
     Import(Import),
+    /// URLs that begin otherwise.
+    Replace(Replacement),
+    /// The values of the tenants text on standard input, with those that are keys or without.
+    Export { table: Table, shows_keys: bool },
     /// The script of the words on standard input.
     Script,
     /// The tenants text of the words on standard input.
@@ -164,7 +168,7 @@ fn batch<'a>(alloc: Global) -> Result<Command<'a>, AllocError> {
 fn import<'a>(alloc: Global) -> Result<Command<'a>, AllocError> {
     Command::new(alloc, "import")
         .about(
-            "Creates the handles of a CSV file; a handle that exists with these values counts as done",
+            "Creates the handles of a CSV file, or updates them; a handle that has these values counts as done",
         )
         .arg(option(
             alloc,
@@ -174,9 +178,87 @@ fn import<'a>(alloc: Global) -> Result<Command<'a>, AllocError> {
         )
         .required(true))?
         .arg(key(alloc).required(true))?
-        .arg(flag(alloc, "dry-run", "Only checks the file, and sends nothing"))?
+        .arg(flag(
+            alloc,
+            "update",
+            "Changes what differs of handles that exist, adds what they lack, and prints it; their other values stay",
+        ))?
+        .arg(option(
+            alloc,
+            "ttl",
+            "SECONDS",
+            "The TTL of rows that say none; 86400 by default",
+        ))?
+        .arg(flag(
+            alloc,
+            "dry-run",
+            "Only checks the file, and sends nothing; with --update asks the server, and prints what would be changed",
+        ))?
         .arg(server(alloc))?
         .arg(handle_net(alloc))
+}
+
+/// A word that is needed.
+fn needed<'a>(alloc: Global, name: &'a str, value: &'a str) -> Arg<'a> {
+    Arg::new(alloc, name)
+        .value_name(value)
+        .required(true)
+        .action(ArgAction::Set)
+}
+
+fn replace<'a>(alloc: Global) -> Result<Command<'a>, AllocError> {
+    Command::new(alloc, "replace")
+        .about(
+            "Makes the URLs of a prefix's handles that begin with OLD begin with NEW, and prints each change",
+        )
+        .after_help(
+            "A server's list ends at about 2000 handles. Of a copy of its table, this names all:\n  handled export --table COPY < TENANTS | sed -n 's/^value \\(.*\\) .*/\\1/p' | uniq > FILE\nAfter an interruption start again, with another file for --undo: what was changed has no such URL any more.",
+        )
+        .arg(needed(alloc, "prefix", "PREFIX"))?
+        .arg(needed(alloc, "old", "OLD"))?
+        .arg(needed(alloc, "new", "NEW"))?
+        .arg(key(alloc).required(true))?
+        .arg(option(
+            alloc,
+            "handles",
+            "FILE",
+            "Takes the handles from this file, one on a line; else from the server's list, which ends at about 2000",
+        ))?
+        .arg(option(
+            alloc,
+            "undo",
+            "FILE",
+            "Writes the old values into this new file: hdl import --csv FILE --update brings them back",
+        ))?
+        .arg(flag(
+            alloc,
+            "dry-run",
+            "Only asks for the values, and prints what would be changed",
+        ))?
+        .arg(server(alloc))?
+        .arg(handle_net(alloc))
+}
+
+fn export<'a>(alloc: Global) -> Result<Command<'a>, AllocError> {
+    Command::new(alloc, "export")
+        .about(
+            "Writes the values of the tenants text on standard input, as handled export makes it, one on a line",
+        )
+        .arg(flag(
+            alloc,
+            "csv",
+            "As a CSV file, which hdl import reads as the same values; without --json this is done",
+        ))?
+        .arg(flag(
+            alloc,
+            "json",
+            "As JSON objects, with the data of all values",
+        ))?
+        .arg(flag(
+            alloc,
+            "keys",
+            "Writes HS_SECKEY values too, with their data: secrets",
+        ))
 }
 
 fn init<'a>(alloc: Global) -> Result<Command<'a>, AllocError> {
@@ -328,6 +410,8 @@ fn command<'a>(alloc: Global) -> Result<Command<'a>, AllocError> {
     questions(command, alloc)?
         .subcommand(batch(alloc)?)?
         .subcommand(import(alloc)?)?
+        .subcommand(replace(alloc)?)?
+        .subcommand(export(alloc)?)?
         .subcommand(explain(alloc)?)?
         .subcommand(Command::new(alloc, "script").about(
             "Makes a script for handled from standard input: a tenants text with values in words, a line `run`, and a batch",
@@ -449,8 +533,29 @@ fn asked_of(alloc: Global, name: &str, matches: &ArgMatches<'_>) -> Result<Invoc
             server: server_of(alloc, matches)?,
             wire: wire_of(matches),
             key: word(alloc, matches, "key")?,
+            ttl: given(alloc, matches, "ttl")?,
+            is_update: matches.get_flag("update"),
             is_dry: matches.get_flag("dry-run"),
         })),
+        "replace" => Ok(Invocation::Replace(Replacement {
+            prefix: word(alloc, matches, "prefix")?,
+            old: word(alloc, matches, "old")?,
+            new: word(alloc, matches, "new")?,
+            server: server_of(alloc, matches)?,
+            wire: wire_of(matches),
+            key: word(alloc, matches, "key")?,
+            handles: given(alloc, matches, "handles")?,
+            undo: given(alloc, matches, "undo")?,
+            is_dry: matches.get_flag("dry-run"),
+        })),
+        "export" => Ok(Invocation::Export {
+            table: if matches.get_flag("json") {
+                Table::Json
+            } else {
+                Table::Csv
+            },
+            shows_keys: matches.get_flag("keys"),
+        }),
         "script" => Ok(Invocation::Script),
         "tenants" => Ok(Invocation::Tenants),
         "init" => Ok(Invocation::Init {

@@ -1,2 +1,4 @@
 pub mod Printout
+pub mod Replace
 pub mod Rows
+pub mod Update

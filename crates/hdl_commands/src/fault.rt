@@ -34,14 +34,12 @@ pub enum WordFault {
     Quote,
     #[error("the line contains a CR: end lines with LF or CR LF")]
     Return,
-    #[error("the line has more or fewer fields than the header: put a field with a comma into quotes")]
+    #[error("the line has more or fewer fields than the header: put a field with a comma or semicolon into quotes")]
     Fields,
-    #[error("the header lacks a column: it needs handle, type and data, and may have ttl, index and permissions")]
-    Column,
-    #[error("a column's name has capitals or spaces: write handle, type, data, ttl, index or permissions")]
-    Letters,
-    #[error("the columns are separated by ;: save the file as CSV with commas")]
-    Semicolons,
+    #[error("the header lacks the column {0}: it needs handle, type and data, and may have ttl, index and permissions, with commas or semicolons between")]
+    Column(&'static str),
+    #[error("spaces stand around the name of the column {0}: take them out")]
+    ColumnSpace(&'static str),
     #[error("the columns are separated by tabs: save the file as CSV with commas")]
     Tabs,
     #[error("the file is UTF-16: save it as CSV UTF-8")]
@@ -52,14 +50,24 @@ pub enum WordFault {
     DataSpace,
     #[error("the data isn't UTF-8: save the file as CSV UTF-8")]
     DataNotUtf8,
-    #[error("the header names a column twice")]
-    ColumnTwice,
+    #[error("the header names the column {0} twice")]
+    ColumnTwice(&'static str),
+    #[error("--ttl isn't a number of seconds below 4294967296")]
+    Ttl,
+    #[error("the value with index {0} is a key: change it with `hdl batch`")]
+    KeyThere(u32),
+    #[error("the value with index {0} has another type: name the indexes in a column index")]
+    OtherType(u32),
     #[error("an HS_SECKEY value is refused in a CSV file: create it with `hdl batch`")]
     KeyInFile,
     #[error("two rows of the handle have the same index")]
     IndexTwice,
     #[error("the handle has more than {WRITTEN_MAX} values: create it with some, and add the others with `hdl batch`")]
     TooMany,
+    #[error("the prefix isn't one: write it as 10 or 0.NA/10")]
+    Prefix,
+    #[error("what is replaced is empty: say how the URLs begin")]
+    NoOld,
     #[error("no memory")]
     Memory,
 }

@@ -3,14 +3,23 @@
 //! ```text
 //! header -> Columns;   a line -> its fields -> value_in_row -> the value
 //! rows of one handle -> creation_task -> the request that creates it
+//! of an update: rows -> question -> what is there -> steps -> the requests that modify what differs and add what lacks
 //! ```
 //!
 //! A row is one line: nothing that can be imported has a line end in it, so a quote that isn't closed spoils its own line alone.
 
 mod asking;
 mod columns;
+mod counts;
 mod creation;
+mod reading;
 mod row;
 mod rows;
+mod update;
+mod updating;
+mod written;
 
 pub use asking::{Import, import_file};
+pub(crate) use reading::whole_values;
+pub use update::{Kept, update_is_right};
+pub(crate) use written::{HEADER, row_of};

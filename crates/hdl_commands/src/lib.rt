@@ -5,7 +5,9 @@
 //! octets -> explain -> the request, reply or value that they are, in words ([`words`])
 //! text of a batch -> read_batch -> Batch -> run_batch, or write_script -> the script that `handled` takes
 //! lines with values in words -> write_tenants -> lines of a tenants text
-//! rows of a CSV file -> import_file -> the requests that create its handles ([`imports`])
+//! rows of a CSV file -> import_file -> the requests that create its handles, or update them ([`imports`])
+//! PREFIX, OLD, NEW -> replace_urls -> the requests that modify URLs ([`replaces`])
+//! a tenants text -> export_values -> its values as rows of a CSV file, or as JSON
 //! prefixes, random octets -> write_fresh_tenants -> a tenants text in words, with fresh secrets
 //! an address and a port -> make_site -> the data of an HS_SITE value -> show_site -> what it says, in words ([`sites`])
 //! a server -> ask_site -> what its site information says, in words
@@ -14,7 +16,8 @@
 //! Requests are read from words and written by `hdl_msg`'s `write_request`, so what is sent is in the grammar; a value's words are
 //! those of `hdl_lines`. Promised is that everything here is total, that a line of a [`Printout`] has no control character, that the
 //! line of a hidden key is a function of its index and the length of its data, and that a handle is imported with just the values that
-//! its rows say (`specs/Rows.antt`); what else is printed is tested.
+//! its rows say (`specs/Rows.antt`), that after an update what the rows name is there and all else as it was (`specs/Update.antt`), that a
+//! replacement changes the data of URLs alone, and that a row that is written is read as its value (`specs/Replace.antt`); what else is printed is tested.
 //!
 //! ```rust
 //! // crates/hdl/src/main.rt
@@ -27,10 +30,12 @@
 mod asking;
 mod batch_text;
 mod batches;
+mod exports;
 mod fault;
 mod fresh;
 mod imports;
 mod key;
+mod replaces;
 mod request;
 mod scripts;
 mod sites;
@@ -41,10 +46,12 @@ mod words;
 pub use asking::{Inquiry, run_question};
 pub use batch_text::{BatchFault, Layouts, read_batch};
 pub use batches::run_batch_text;
+pub use exports::{Table, export_values};
 pub use fault::WordFault;
 pub use fresh::{FreshFault, fresh_secret, write_fresh_tenants};
-pub use imports::{Import, import_file};
+pub use imports::{Import, Kept, import_file, update_is_right};
 pub use key::SECRET_VARIABLE;
+pub use replaces::{Replacement, replace_urls};
 pub use scripts::write_script;
 pub use sites::{SiteFault, SiteWords, ask_site, make_site, show_site};
 pub use tenants::write_tenants;

@@ -7,6 +7,7 @@
 //! A value is the line that `hdl_lines` shows of it, which reads back as the value, or of a hidden key says how many octets its data
 //! has. Octets that are in no grammar are said to be so. No line has a control character, whatever stands in handles, types and text.
 
+mod line;
 mod lines;
 mod naming;
 mod printout;
@@ -14,6 +15,7 @@ mod reply;
 mod request;
 mod value;
 
+pub(crate) use line::line_of;
 pub use lines::explain;
 pub use naming::{code_name, operation_in, operation_name};
 pub use printout::Printout;

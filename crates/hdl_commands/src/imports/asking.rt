@@ -1,21 +1,23 @@
 //! An import, asked of a server.
 
-ghost use Rattle.std.specs.Prelude.{◌≡◌, ◌≢◌, ◌⊎◌, ◌++◌, ◌∷◌, []};
+ghost use Rattle.std.specs.Prelude.{◌≡◌, ◌⊎◌, ◌++◌, ◌∷◌, []};
 ghost use Rattle.hdl_msg.specs.declared.codes.ResponseCode.TheVariants.{Success};
 ghost use Rattle.hdl_msg.specs.Codes.{response_number};
 
 use crate::batches::is_watched;
 use crate::fault::WordFault;
-use crate::imports::rows::{Faults, HandleRows};
+use crate::imports::columns::Columns;
+use crate::imports::counts::{Counts, print_code};
+use crate::imports::reading::question;
+use crate::imports::row::DAY;
+use crate::imports::rows::{Faults, Form, HandleRows, Part};
+use crate::imports::update::Kept;
+use crate::imports::updating::{Manner, preview_part, update_part};
 use crate::key::{key_of, read_key_reference};
 use crate::telling::tell_fault;
-use crate::words::code_name;
-use hdl_client::{
-    Batch, ClientFault, Key, Outcomes, RequestMessage, Session, Task, Transport, connect,
-};
-use hdl_limits::{Items, Octets};
-use hdl_lines::{printed_octets, shown_line};
-use hdl_msg::{Body, ContentView, ReplyView, RequestBody, ResponseCode, Values, read_request};
+use hdl_client::{Batch, ClientFault, Key, Outcomes, Session, Task, Transport, connect};
+use hdl_lines::{number_in, printed_octets, shown_line};
+use hdl_msg::{Body, ContentView, ReplyView, ResponseCode, Values, read_request};
 use hdl_value::Wire;
 use std::alloc::{AllocError, Global};
 use std::{fs, io, mem};
@@ -36,7 +38,11 @@ pub struct Import {
     pub wire: Wire,
     /// A reference to the key that answers the challenges.
     pub key: String,
-    /// Whether the file is only read, and nothing sent.
+    /// The TTL of rows that say none, in digits; a day if it isn't given.
+    pub ttl: Option<String>,
+    /// Whether handles that are there get the values of their rows.
+    pub is_update: bool,
+    /// Whether nothing is changed: the file is only checked, and of an update the server is asked what is there.
     pub is_dry: bool,
 }
 
@@ -48,7 +54,7 @@ enum ImportFault {
     #[error("line 1: {0}")]
     Header(WordFault),
     #[error("{0}")]
-    Key(WordFault),
+    Words(WordFault),
     #[error("{0}")]
     Client(ClientFault),
     #[error("the server refuses the key: check --key and its secret; later rows were not tried")]
@@ -58,7 +64,7 @@ enum ImportFault {
 impl ImportFault {
     fn status(&self) -> u8 {
         match self {
-            ImportFault::File(_) | ImportFault::Header(_) | ImportFault::Key(_) => 2,
+            ImportFault::File(_) | ImportFault::Header(_) | ImportFault::Words(_) => 2,
             ImportFault::Client(_) => 3,
             ImportFault::Refused => 1,
         }
@@ -75,33 +81,6 @@ impl From<AllocError> for ImportFault {
     fn from(_: AllocError) -> ImportFault {
         ImportFault::Client(ClientFault::Memory)
     }
-}
-
-/// How many handles came to what.
-#[derive(Clone, Copy)]
-struct Counts {
-    created: usize,
-    there: usize,
-    failed: usize,
-    is_key_refused: bool,
-}
-
-impl Counts {
-    fn fail(&mut self)
-        ensures { self.new.failed ≢ 0 }
-    {
-        self.failed = self.failed.saturating_add(1);
-    }
-}
-
-/// Prints a line for a handle that failed.
-fn print_code(rt: &HostRuntime, task: &Task, code: u32, more: &str) {
-    let _ = println!(rt;
-        "line {}: {}: {code} {}{more}",
-        task.line,
-        task.title,
-        code_name(code)
-    );
 }
 
 /// What comes of the requests that create handles.
@@ -211,34 +190,12 @@ impl Outcomes for Comparisons<'_> {
     }
 }
 
-/// The message that asks for the values of a handle.
-fn resolution(alloc: Global, wire: Wire, handle: &[u8]) -> Result<RequestMessage, ClientFault> {
-    let body = RequestBody::Resolution {
-        handle: Octets::new(Vec::from_slice(alloc, handle)?),
-        indexes: Items::new(Vec::new(alloc)),
-        types: Items::new(Vec::new(alloc)),
-    };
-    RequestMessage::new(alloc, wire, &body)
-}
-
-/// The task that asks for the values of a handle, in the place of the one that was to create it.
-fn question(alloc: Global, task: &Task) -> Result<Task, ClientFault> {
-    let request = resolution(alloc, task.request.wire(), task.request.handle())?;
-    let title = String::from_str(alloc, &task.title)?;
-    Ok(Task {
-        line: task.line,
-        title,
-        request,
-        key: task.key,
-    })
-}
-
 /// Those that ask for the handles of these lines.
 fn questions(alloc: Global, tasks: &[Task], lines: &[usize]) -> Result<Vec<Task>, ClientFault> {
     let mut questions = Vec::new(alloc);
     for task in tasks {
         if lines.contains(&task.line) {
-            questions.push(question(alloc, task)?)?;
+            questions.push(question(alloc, task, Vec::new(alloc))?)?;
         }
     }
     Ok(questions)
@@ -267,21 +224,18 @@ fn compare<S: Transport>(
     ended
 }
 
-/// Asks for the next part of the file. Answers whether there was one.
-fn ask_part<S: Transport>(
+/// Creates the handles of the batch's tasks, and compares those that are there already.
+fn create_all<S: Transport>(
     rt: &HostRuntime,
     session: &mut Session<S>,
-    rows: &mut HandleRows<'_>,
     batch: &mut Batch,
     counts: &mut Counts,
-) -> Result<bool, ClientFault> {
+) -> Result<(), ClientFault> {
     let mut creations = Creations {
         rt,
         counts: *counts,
         found: Vec::new(rt.alloc()),
     };
-    batch.tasks.clear();
-    rows.fill(&mut batch.tasks, &mut creations);
     let ended = session.run_batch(batch, &mut creations);
     let Creations {
         counts: so_far,
@@ -290,26 +244,76 @@ fn ask_part<S: Transport>(
     } = creations;
     *counts = so_far;
     ended?;
-    if batch.tasks.is_empty() {
+    compare(rt, session, batch, counts, &found)
+}
+
+/// The next part of the file; its faults are told and counted.
+fn next_part(rt: &HostRuntime, rows: &mut HandleRows<'_>, counts: &mut Counts) -> Part {
+    let mut faults = Creations {
+        rt,
+        counts: *counts,
+        found: Vec::new(rt.alloc()),
+    };
+    let mut part = Part::new(rt.alloc());
+    rows.fill(&mut part, &mut faults);
+    *counts = faults.counts;
+    part
+}
+
+/// The tasks that create handles of a part: all of them, or of an update those that aren't there, after the others are updated.
+fn to_create<S: Transport>(
+    rt: &HostRuntime,
+    session: &mut Session<S>,
+    part: Part,
+    batch: &mut Batch,
+    manner: Option<Manner>,
+    counts: &mut Counts,
+) -> Result<Vec<Task>, ClientFault> {
+    let Some(manner) = manner else {
+        let Part { tasks, .. } = part;
+        return Ok(tasks);
+    };
+    if manner.is_dry {
+        preview_part(rt, session, part, batch, manner, counts)?;
+        return Ok(Vec::new(rt.alloc()));
+    }
+    update_part(rt, session, part, batch, manner, counts)
+}
+
+/// Asks for the next part of the file. Answers whether there was one.
+fn ask_part<S: Transport>(
+    rt: &HostRuntime,
+    session: &mut Session<S>,
+    rows: &mut HandleRows<'_>,
+    batch: &mut Batch,
+    manner: Option<Manner>,
+    counts: &mut Counts,
+) -> Result<bool, ClientFault> {
+    let part = next_part(rt, rows, counts);
+    if part.tasks.is_empty() {
         return Ok(false);
     }
-    compare(rt, session, batch, counts, &found)?;
+    batch.tasks = to_create(rt, session, part, batch, manner, counts)?;
+    create_all(rt, session, batch, counts)?;
     Ok(true)
 }
 
 /// How many lines of the file stand between two lines of progress.
 const STRIDE: usize = 10_000;
 
-/// Says how far the import is: in the last line of a terminal that shows nothing else, else on a line each ten thousand lines of the file.
+/// What is done with each part of the file, and how far it is. That is said in the last line of a terminal that shows nothing else, or else
+/// on a line each ten thousand lines of the file.
 #[derive(Drop)]
-struct Progress<'r> {
+struct Course<'r> {
     rt: &'r HostRuntime,
+    /// How handles that are there are updated, if they are.
+    manner: Option<Manner>,
     all: usize,
     is_watched: bool,
     shown: usize,
 }
 
-impl Progress<'_> {
+impl Course<'_> {
     fn show(&mut self, lines: usize) {
         if self.is_watched {
             let _ = eprint!(self.rt; "\r{lines} of {} lines", self.all);
@@ -327,18 +331,17 @@ impl Progress<'_> {
 }
 
 fn ask_parts<S: Transport>(
-    rt: &HostRuntime,
     session: &mut Session<S>,
     rows: &mut HandleRows<'_>,
     batch: &mut Batch,
     counts: &mut Counts,
-    progress: &mut Progress<'_>,
+    course: &mut Course<'_>,
 ) -> Result<(), ImportFault> {
     for _ in 0..u64::MAX {
-        if !ask_part(rt, session, rows, batch, counts)? {
+        if !ask_part(course.rt, session, rows, batch, course.manner, counts)? {
             break;
         }
-        progress.show(rows.lines);
+        course.show(rows.lines);
         if counts.is_key_refused {
             return Err(ImportFault::Refused);
         }
@@ -361,82 +364,112 @@ fn batch_of(alloc: Global, key: Key) -> Result<Batch, ClientFault> {
 }
 
 fn ask_all(
-    rt: &HostRuntime,
     server: &str,
     rows: &mut HandleRows<'_>,
     key: Key,
     counts: &mut Counts,
-    all: usize,
+    course: &mut Course<'_>,
 ) -> Result<(), ImportFault> {
-    let mut batch = batch_of(rt.alloc(), key)?;
-    let mut progress = Progress {
-        rt,
-        all,
-        is_watched: is_watched(rt),
-        shown: 0,
-    };
-    let mut session = connect(rt, server)?;
-    let ended = ask_parts(rt, &mut session, rows, &mut batch, counts, &mut progress);
-    progress.end();
+    let mut batch = batch_of(course.rt.alloc(), key)?;
+    let mut session = connect(course.rt, server)?;
+    let ended = ask_parts(&mut session, rows, &mut batch, counts, course);
+    course.end();
     ended
 }
 
 /// Reads all of the file, tells its faults, and counts as created the handles that could be asked for.
 fn read_all(rt: &HostRuntime, rows: &mut HandleRows<'_>, counts: &mut Counts) {
-    let mut creations = Creations {
-        rt,
-        counts: *counts,
-        found: Vec::new(rt.alloc()),
-    };
-    let mut tasks = Vec::new(rt.alloc());
     for _ in 0..u64::MAX {
-        tasks.clear();
-        rows.fill(&mut tasks, &mut creations);
-        if tasks.is_empty() {
+        let part = next_part(rt, rows, counts);
+        if part.tasks.is_empty() {
             break;
         }
-        let created = creations.counts.created;
-        creations.counts.created = created.saturating_add(tasks.len());
+        counts.created = counts.created.saturating_add(part.tasks.len());
     }
-    *counts = creations.counts;
+}
+
+fn ttl_of(import: &Import) -> Result<u32, WordFault> {
+    match &import.ttl {
+        Some(digits) => number_in(digits.as_bytes()).ok_or(WordFault::Ttl),
+        None => Ok(DAY),
+    }
+}
+
+/// How the rows of the file are read.
+fn form_of(alloc: Global, import: &Import) -> Result<Form, WordFault> {
+    Ok(Form {
+        wire: import.wire,
+        key: read_key_reference(alloc, &import.key)?,
+        ttl: ttl_of(import)?,
+        keeps_rows: import.is_update,
+    })
+}
+
+/// How handles that are there are updated: what the file says nothing of stays.
+fn manner_of(import: &Import, columns: &Columns) -> Option<Manner> {
+    if !import.is_update {
+        return None;
+    }
+    Some(Manner {
+        kept: Kept {
+            ttl: columns.ttl.is_none() && import.ttl.is_none(),
+            permissions: columns.permissions.is_none(),
+        },
+        names_indexes: columns.index.is_some(),
+        is_dry: import.is_dry,
+    })
 }
 
 fn import_rows(rt: &HostRuntime, import: &Import, counts: &mut Counts) -> Result<(), ImportFault> {
-    let alloc = rt.alloc();
     let text = match fs::read(rt, import.file.as_str()) {
         Ok(text) => text,
         Err(error) => return Err(ImportFault::File(error)),
     };
-    let reference = match read_key_reference(alloc, &import.key) {
-        Ok(reference) => reference,
-        Err(fault) => return Err(ImportFault::Key(fault)),
+    let form = match form_of(rt.alloc(), import) {
+        Ok(form) => form,
+        Err(fault) => return Err(ImportFault::Words(fault)),
     };
-    let mut rows = match HandleRows::new(alloc, import.wire, reference, &text) {
+    let mut rows = match HandleRows::new(rt.alloc(), form, &text) {
         Ok(rows) => rows,
         Err(fault) => return Err(ImportFault::Header(fault)),
     };
-    if import.is_dry {
+    if import.is_dry && !import.is_update {
         read_all(rt, &mut rows, counts);
         return Ok(());
     }
     let key = match key_of(rt, &import.key) {
         Ok(key) => key,
-        Err(fault) => return Err(ImportFault::Key(fault)),
+        Err(fault) => return Err(ImportFault::Words(fault)),
     };
-    ask_all(rt, &import.server, &mut rows, key, counts, lines_in(&text))
+    let mut course = Course {
+        rt,
+        manner: manner_of(import, &rows.columns),
+        all: lines_in(&text),
+        is_watched: is_watched(rt),
+        shown: 0,
+    };
+    ask_all(&import.server, &mut rows, key, counts, &mut course)
 }
 
-fn print_counts(rt: &HostRuntime, is_dry: bool, counts: &Counts) {
+fn print_counts(rt: &HostRuntime, import: &Import, counts: &Counts) {
     let Counts {
         created,
+        changed,
         there,
         failed,
         ..
     } = *counts;
-    let _ = if is_dry {
-        println!(rt; "{created} could be created, {failed} failed; nothing was sent")
-    } else {
-        println!(rt; "{created} created, {there} there already, {failed} failed")
+    let _ = match (import.is_update, import.is_dry) {
+        (false, false) => println!(rt; "{created} created, {there} there already, {failed} failed"),
+        (false, true) => {
+            println!(rt; "{created} could be created, {failed} failed; nothing was sent")
+        }
+        (true, false) => println!(rt;
+            "{created} created, {changed} changed, {there} there already, {failed} failed"
+        ),
+        (true, true) => println!(rt;
+            "{created} would be created, {changed} changed, {there} there already, {failed} failed; only questions were sent"
+        ),
     };
 }
 
@@ -453,23 +486,19 @@ fn tell(rt: &HostRuntime, server: &str, fault: &ImportFault) {
 
 /// Creates the handles of a CSV file, over one connection, a thousand at a time with several requests in flight, and prints a line for
 /// each row and each handle that failed, and at the end how many came to what; progress on standard error. A handle that is there with
-/// just the values of its rows, whenever they were written, counts as done. Answers the exit status: 0 where all handles are there, 1
-/// where some aren't or the key is refused, 2 where nothing was sent, and 3 where the connection failed. A dry import tells what is wrong
-/// with the file alone.
+/// just the values of its rows, whenever they were written, counts as done. An update asks first what is there, creates handles that
+/// aren't, brings the values of its rows to one that is, and prints what it changes. Answers the exit status: 0 where all handles are
+/// as the rows say, 1 where some aren't or the key is refused, 2 where nothing was sent, and 3 where the connection failed. A dry import tells
+/// what is wrong with the file alone, and a dry update what it would change.
 pub fn import_file(rt: &HostRuntime, import: &Import) -> u8 {
-    let mut counts = Counts {
-        created: 0,
-        there: 0,
-        failed: 0,
-        is_key_refused: false,
-    };
+    let mut counts = Counts::NONE;
     let ended = import_rows(rt, import, &mut counts);
     let status = match &ended {
         Ok(()) => u8::from(counts.failed > 0),
         Err(fault) => fault.status(),
     };
     if status != 2 {
-        print_counts(rt, import.is_dry, &counts);
+        print_counts(rt, import, &counts);
     }
     if let Err(fault) = ended {
         tell(rt, &import.server, &fault);

@@ -15,7 +15,7 @@ use std::alloc::Global;
 /// The permissions 1110: administrators read and write, everyone reads.
 pub(crate) const OPEN: u8 = 14;
 
-/// The TTL where none is said: a day.
+/// A day, in seconds.
 pub(crate) const DAY: u32 = 86_400;
 
 fn number_at(fields: &ByteRecord, column: usize) -> Option<u32>
@@ -33,12 +33,22 @@ fn index_in(column: Option<usize>, place: u32, fields: &ByteRecord) -> Option<u3
     }
 }
 
-fn ttl_of(column: Option<usize>, fields: &ByteRecord) -> Option<u32>
-    ensures { result ≡ rows.ttl_of column (fields_of fields.now) }
+fn ttl_in(unsaid: u32, field: &[u8]) -> Option<u32>
+    ensures { result ≡ rows.ttl_in unsaid field.now }
+{
+    if field.is_empty() {
+        Some(unsaid)
+    } else {
+        number_in(field)
+    }
+}
+
+fn ttl_of(unsaid: u32, column: Option<usize>, fields: &ByteRecord) -> Option<u32>
+    ensures { result ≡ rows.ttl_of unsaid column (fields_of fields.now) }
 {
     match column {
-        None => Some(DAY),
-        Some(column) => number_at(fields, column),
+        None => Some(unsaid),
+        Some(column) => ttl_in(unsaid, fields.get(column)?),
     }
 }
 
@@ -51,16 +61,18 @@ fn permissions_of(column: Option<usize>, fields: &ByteRecord) -> Option<u8>
     }
 }
 
-/// The value of a row that stands at this place among the rows of its handle, from 1, or its first field that is wrong.
+/// The value of a row that stands at this place among the rows of its handle, from 1, or its first field that is wrong. A row that says no TTL
+/// has the one that is given.
 #[tactic(auto, unfolding(crate::specs::Rows::value_in_row))]
 pub(crate) fn value_in_row(
     alloc: Global,
     columns: &Columns,
+    ttl: u32,
     place: u32,
     fields: &ByteRecord,
 ) -> Result<Value, LineFault>
-    ensures value { IfOk result (λ v. rows.value_in_row columns.now place (fields_of fields.now) ≡ Ok v) }
-    ensures fault { IfErr result (IsFaultIn (rows.value_in_row columns.now place (fields_of fields.now))) }
+    ensures value { IfOk result (λ v. rows.value_in_row columns.now ttl place (fields_of fields.now) ≡ Ok v) }
+    ensures fault { IfErr result (IsFaultIn (rows.value_in_row columns.now ttl place (fields_of fields.now))) }
 {
     let Some(index) = index_in(columns.index, place, fields) else {
         return Err(LineFault::Index);
@@ -68,7 +80,7 @@ pub(crate) fn value_in_row(
     let Some(kind) = fields.get(columns.kind) else {
         return Err(LineFault::Type);
     };
-    let Some(ttl) = ttl_of(columns.ttl, fields) else {
+    let Some(ttl) = ttl_of(ttl, columns.ttl, fields) else {
         return Err(LineFault::Ttl);
     };
     let Some(permissions) = permissions_of(columns.permissions, fields) else {

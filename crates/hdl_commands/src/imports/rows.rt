@@ -1,6 +1,6 @@
 //! The rows of a CSV file, cut into handles.
 
-ghost use Rattle.std.specs.Prelude.{◌≡◌, ◌∷◌, ◌++◌, [], Ok, OnOk};
+ghost use Rattle.std.specs.Prelude.{◌≡◌, ◌∷◌, ◌++◌, [], Ok, OnOk, IfOk};
 ghost use Rattle.csv.specs.Records.{fields_of};
 ghost use Rattle.hdl_value.specs.declared.value.Value.{Value};
 ghost use Rattle.hdl_commands.specs.Rows as said;
@@ -37,15 +37,69 @@ fn data_fault(data: &[u8]) -> WordFault {
     }
 }
 
-/// Another form of a table than CSV, if its first line shows one.
-fn other_form(header: &[u8]) -> Option<WordFault> {
+/// What stands between the fields of a file with this header. Spreadsheets write a semicolon if the country's decimal mark is a comma.
+fn separator_of(header: &[u8]) -> Result<u8, WordFault> {
     match header {
-        [0xFF, 0xFE, ..] | [0xFE, 0xFF, ..] => Some(WordFault::Utf16),
-        _ if header.contains(&b',') => None,
-        _ if header.contains(&b';') => Some(WordFault::Semicolons),
-        _ if header.contains(&b'\t') => Some(WordFault::Tabs),
-        _ => None,
+        [0xFF, 0xFE, ..] | [0xFE, 0xFF, ..] => Err(WordFault::Utf16),
+        _ if header.contains(&b',') => Ok(b','),
+        _ if header.contains(&b';') => Ok(b';'),
+        _ if header.contains(&b'\t') => Err(WordFault::Tabs),
+        _ => Ok(b','),
     }
+}
+
+/// How the rows of a file are read, and what is made of them.
+#[derive(Drop)]
+pub(crate) struct Form {
+    /// The layout of values in the requests.
+    pub wire: Wire,
+    /// The key of the administrator that a handle without one gets.
+    pub key: RawRef,
+    /// The TTL of a row that says none.
+    pub ttl: u32,
+    /// Whether the values of the rows are kept beside the tasks.
+    pub keeps_rows: bool,
+}
+
+/// Handles of a file: the tasks that create them, and, where they are kept, the values of each one's rows.
+#[derive(Drop)]
+pub(crate) struct Part {
+    pub tasks: Vec<Task>,
+    pub rows: Vec<Vec<Value>>,
+}
+
+impl Part {
+    pub fn new(alloc: Global) -> Part {
+        Part {
+            tasks: Vec::new(alloc),
+            rows: Vec::new(alloc),
+        }
+    }
+
+    fn clear(&mut self) {
+        self.tasks.clear();
+        self.rows.clear();
+    }
+}
+
+/// Copies of values.
+pub(crate) fn copies(alloc: Global, values: &[Value]) -> Result<Vec<Value>, AllocError>
+    ensures { IfOk result (λ all. all.items ≡ values.now) }
+{
+    let mut all = Vec::new(alloc);
+    for value in values {
+        all.push(value.copy(alloc)?)?;
+    }
+    Ok(all)
+}
+
+fn is_blank(fields: &ByteRecord) -> bool {
+    for place in 0..fields.len() {
+        if fields.get(place) != Some(b"") {
+            return false;
+        }
+    }
+    true
 }
 
 /// A handle, and the values of its rows so far.
@@ -64,12 +118,13 @@ impl Entry {
         &mut self,
         alloc: Global,
         columns: &Columns,
+        ttl: u32,
         fields: &ByteRecord,
     ) -> Result<(), WordFault>
-        ensures { OnOk result ((v : Value) × (self.new.values.items ≡ self.old.values.items ++ v ∷ []) × (said.value_in_row columns.now self.new.rows (fields_of fields.now) ≡ Ok v)) }
+        ensures { OnOk result ((v : Value) × (self.new.values.items ≡ self.old.values.items ++ v ∷ []) × (said.value_in_row columns.now ttl self.new.rows (fields_of fields.now) ≡ Ok v)) }
     {
         self.rows = self.rows.saturating_add(1);
-        let value = match value_in_row(alloc, columns, self.rows, fields) {
+        let value = match value_in_row(alloc, columns, ttl, self.rows, fields) {
             Ok(value) => value,
             Err(LineFault::Text) => {
                 return Err(data_fault(fields.get(columns.bytes).unwrap_or(b"")));
@@ -88,11 +143,9 @@ impl Entry {
 #[derive(Drop)]
 pub(crate) struct HandleRows<'t> {
     alloc: Global,
-    /// The layout of values in the requests.
-    wire: Wire,
-    /// The key of the administrator that a handle without one gets.
-    key: RawRef,
-    columns: Columns,
+    form: Form,
+    separator: u8,
+    pub columns: Columns,
     /// How many fields a row has.
     width: usize,
     rest: &'t [u8],
@@ -117,26 +170,19 @@ fn has_return(line: &[u8]) -> bool {
 
 impl<'t> HandleRows<'t> {
     /// The rows after the header of this text.
-    pub fn new(
-        alloc: Global,
-        wire: Wire,
-        key: RawRef,
-        text: &'t [u8],
-    ) -> Result<HandleRows<'t>, WordFault> {
+    pub fn new(alloc: Global, form: Form, text: &'t [u8]) -> Result<HandleRows<'t>, WordFault> {
         let (header, rest) = line_of(text);
-        if let Some(fault) = other_form(header) {
-            return Err(fault);
-        }
+        let separator = separator_of(header)?;
         if has_return(header) {
             return Err(WordFault::Return);
         }
-        let Some(names) = fields_in(alloc, header)? else {
-            return Err(WordFault::Column);
+        let Some(names) = fields_in(alloc, separator, header)? else {
+            return Err(WordFault::Column("handle"));
         };
         Ok(HandleRows {
             alloc,
-            wire,
-            key,
+            form,
+            separator,
             columns: columns_of(&names)?,
             width: names.len(),
             rest,
@@ -155,8 +201,28 @@ impl<'t> HandleRows<'t> {
         Some(line)
     }
 
+    /// Adds the task of a handle with these values, and where they are kept the values.
+    fn push_task(
+        &self,
+        part: &mut Part,
+        line: usize,
+        handle: &[u8],
+        values: Vec<Value>,
+    ) -> Result<(), WordFault> {
+        let Form { wire, key, .. } = &self.form;
+        let rows = if self.form.keeps_rows {
+            copies(self.alloc, &values)?
+        } else {
+            Vec::new(self.alloc)
+        };
+        let task = creation_task(self.alloc, *wire, key, line, handle, values)?;
+        part.rows.push(rows)?;
+        part.tasks.push(task)?;
+        Ok(())
+    }
+
     /// Ends the handle that was begun: its task is the next one.
-    fn finish<F: Faults>(&mut self, tasks: &mut Vec<Task>, faults: &mut F) {
+    fn finish<F: Faults>(&mut self, part: &mut Part, faults: &mut F) {
         let Some(entry) = self.entry.take() else {
             return;
         };
@@ -170,15 +236,10 @@ impl<'t> HandleRows<'t> {
         if is_faulty {
             return faults.left_out();
         }
-        let fault = match creation_task(self.alloc, self.wire, &self.key, line, &handle, values) {
-            Ok(task) => match tasks.push(task) {
-                Ok(()) => return,
-                Err(_) => WordFault::Memory,
-            },
-            Err(fault) => fault,
-        };
-        faults.note_fault(line, &handle, fault);
-        faults.left_out();
+        if let Err(fault) = self.push_task(part, line, &handle, values) {
+            faults.note_fault(line, &handle, fault);
+            faults.left_out();
+        }
     }
 
     fn is_begun(&self, handle: &[u8]) -> bool {
@@ -210,23 +271,27 @@ impl<'t> HandleRows<'t> {
             return Err(WordFault::Fields);
         }
         match &mut self.entry {
-            Some(entry) => entry.push_row(self.alloc, &self.columns, fields),
+            Some(entry) => entry.push_row(self.alloc, &self.columns, self.form.ttl, fields),
             None => Ok(()),
         }
     }
 
+    /// Takes a line. One without a field that says something is passed over: spreadsheets write such lines.
     fn take<F: Faults>(
         &mut self,
         line: &[u8],
-        tasks: &mut Vec<Task>,
+        part: &mut Part,
         faults: &mut F,
     ) -> Result<(), WordFault> {
-        let Some(fields) = fields_in(self.alloc, line)? else {
+        let Some(fields) = fields_in(self.alloc, self.separator, line)? else {
             return Ok(());
         };
+        if is_blank(&fields) {
+            return Ok(());
+        }
         let handle = fields.get(self.columns.handle).unwrap_or(b"");
         if !self.is_begun(handle) {
-            self.finish(tasks, faults);
+            self.finish(part, faults);
             self.begin(handle)?;
         }
         self.push(line, &fields)
@@ -246,19 +311,20 @@ impl<'t> HandleRows<'t> {
         }
     }
 
-    /// Adds the tasks of the next thousand handles, or of those that are left: none where no row is.
-    pub fn fill<F: Faults>(&mut self, tasks: &mut Vec<Task>, faults: &mut F) {
+    /// Reads the next thousand handles, or those that are left: none where no row is.
+    pub fn fill<F: Faults>(&mut self, part: &mut Part, faults: &mut F) {
+        part.clear();
         for _ in 0..u64::MAX {
-            if tasks.len() >= PART {
+            if part.tasks.len() >= PART {
                 return;
             }
             let Some(line) = self.next_line() else {
                 break;
             };
-            if let Err(fault) = self.take(line, tasks, faults) {
+            if let Err(fault) = self.take(line, part, faults) {
                 self.spoil(faults, fault);
             }
         }
-        self.finish(tasks, faults);
+        self.finish(part, faults);
     }
 }
