@@ -11,12 +11,11 @@ returns c =
     let written = c.in_ok-put_written.ensures in
     let known = known_part c.args.name.now in
     let name = name_part c.args.name.now in
-    let named = put_as c.in_ok-page.page.octets.items c.put_name.new.page.octets.items (codes "<p class=\"name\" dir=\"auto\">") c.sent.result.now c.args.name.now (codes "</p>\n") c.in_ok-put_name.ensures c.sent.ensures.octets in
-    (
+    let named = put_as c.in_ok-page.page.octets.items c.put_name.new.page.octets.items (codes "<p class=\"name\" dir=\"auto\">") c.sent.result.now c.args.name.now (codes "</p>\n") c.in_ok-put_name.ensures c.sent.ensures.octets in (
       why.0,
       written.0,
       why.1,
       written.1,
       five c.in_ok-page.page.octets.items c.put_name.new.page.octets.items _ _ _ _ name why.0 written.0 ANOTHER.now known named why.2 written.2 c.in_ok-markup.ensures c.in_ok-put_known_link.ensures
-      ∙ ap (λ (t : List ℕ). t ++ (name ++ (why.0 ++ (written.0 ++ (ANOTHER.now ++ known))))) c.in_ok-page.ensures,
+          ∙ ap (λ (t : List ℕ). t ++ (name ++ (why.0 ++ (written.0 ++ (ANOTHER.now ++ known))))) c.in_ok-page.ensures,
     )
