@@ -68,6 +68,8 @@ PRINTED = (
     ("crates/hdl_writes/src/stop.rt", r"request of more than (\d+) octets", LIMITS, "MESSAGE_MAX"),
     ("crates/hdl_writes/src/stop.rt", r"remove more than (\d+) values", LIMITS, "WRITTEN_MAX"),
     ("crates/hdl_writes/src/change_answers.rt", r"at most (\d+) values", LIMITS, "VALUES_MAX"),
+    ("crates/hdl_forms/src/fault.rt", r"at most (\d+) bytes", LIMITS, "DATA_MAX"),
+    ("crates/hdl_forms/src/forms.rt", r"at most (\d+) bytes", "crates/hdl_web/src/gathering.rt", "BODY_MOST"),
     ("crates/hdl_proxy/src/step.rt", r"beyond (\w+) handles", "crates/hdl_proxy/src/step.rt", "HOPS_MOST"),
 )
 ROW = re.compile(r"^\| [^|]* \| ([\d,]+) \| `(\w+)` \|$", re.MULTILINE)

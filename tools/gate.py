@@ -34,6 +34,7 @@ PARTS = (
     [sys.executable, "tools/handle_net_cases.py"],
     [sys.executable, "tools/proxies.py"],
     [sys.executable, "tools/rests.py"],
+    [sys.executable, "tools/forms.py"],
     [sys.executable, "tools/imports.py"],
     [sys.executable, "tools/routes.py"],
     [sys.executable, "tools/readme.py"],

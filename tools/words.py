@@ -27,7 +27,7 @@ MOST = {
     "packaging/README.md": 300,
     "docs/BELIEVED.md": 1_100,
     "docs/BENCHMARKS.md": 2_600,
-    "docs/DECISIONS.md": 5_500,
+    "docs/DECISIONS.md": 5_000,
     "docs/DESIGN.md": 4_300,
     "docs/FILE.md": 1_400,
     "docs/GATE.md": 1_900,
@@ -35,13 +35,13 @@ MOST = {
     "docs/HDL.md": 2_010,
     "docs/OPERATING.md": 4_000,
     "docs/PAGES.md": 450,
-    "docs/PROMISES.md": 5_490,
+    "docs/PROMISES.md": 5_650,
     "docs/PROTOCOL.md": 3_900,
-    "docs/PROXY.md": 3_400,
+    "docs/PROXY.md": 3_650,
     "docs/THEOREM.md": 4_500,
     "docs/TOOLCHAIN.md": 1_000,
     "docs/WORDS.md": 900,
-    "docs/WRONG.md": 4_200,
+    "docs/WRONG.md": 4_250,
 }
 # A page of one crate's decisions.
 OF_CRATE = 700

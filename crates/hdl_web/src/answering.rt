@@ -12,6 +12,7 @@ use crate::ways::KeptRedirect;
 use bytes::Bytes;
 use futures::task::{Context, Poll};
 use futures::{Future, ready};
+use hdl_forms::{Offer, with_offer};
 use hdl_proxy::{Answer, Site, with_tag};
 use http_body_util::Full;
 use hyper::Response;
@@ -27,11 +28,18 @@ pub(crate) struct ResponseContext {
     pub(crate) known: Option<String>,
     /// Whether handles are changed here.
     pub(crate) changes: bool,
+    /// The form to which a page at this address leads then.
+    pub(crate) offer: Offer,
 }
 
 impl ResponseContext {
     /// An answer as the client gets it: a page as the site gives it, or that the client has it already.
     fn answer(&self, alloc: Global, answer: Answer) -> Result<Answer, AllocError> {
+        let answer = if self.changes {
+            with_offer(alloc, self.offer, answer)?
+        } else {
+            answer
+        };
         let known = match &self.known {
             Some(field) => Some(field.as_str()),
             None => None,

@@ -1,6 +1,7 @@
 //! A question on its way from server to server.
 
 use futures::channel::oneshot;
+use hdl_forms::edit_page;
 use hdl_proxy::{Answer, Next, NoAnswer, Question, next_step};
 use hdl_routes::{Miss, worst};
 use std::alloc::{AllocError, Global};
@@ -19,7 +20,23 @@ pub(crate) struct Ask {
     pub(crate) missed: Miss,
     /// Since when it waits for the server that is next.
     pub(crate) since: u64,
+    /// The token of the form that is made of the reply, where one is.
+    pub(crate) token: Option<Vec<u8>>,
     pub(crate) answer: oneshot::Sender<Made>,
+}
+
+/// What is next for a question, now that this was answered: the page of a form where one is made of it.
+fn next_or_form(
+    alloc: Global,
+    question: Question,
+    token: Option<Vec<u8>>,
+    answered: Result<&[u8], NoAnswer>,
+    chance: u64,
+) -> Result<Next, AllocError> {
+    match token {
+        Some(token) => Ok(Next::Answer(edit_page(alloc, &question, answered, &token)?)),
+        None => next_step(alloc, question, answered, chance),
+    }
 }
 
 /// The answer to a browser if no server gave a good one.
@@ -55,7 +72,7 @@ impl Ask {
         reply: &[u8],
         chance: u64,
     ) -> (Result<Next, AllocError>, oneshot::Sender<Made>) {
-        let next = next_step(self.alloc, self.question, Ok(reply), chance);
+        let next = next_or_form(self.alloc, self.question, self.token, Ok(reply), chance);
         (next, self.answer)
     }
 
@@ -67,7 +84,7 @@ impl Ask {
     /// Answers with what all servers came to.
     pub(crate) fn end(self) {
         let missed = no_answer(self.missed);
-        let next = next_step(self.alloc, self.question, Err(missed), 0);
+        let next = next_or_form(self.alloc, self.question, self.token, Err(missed), 0);
         let _ = self.answer.send(last_answer(next));
     }
 }

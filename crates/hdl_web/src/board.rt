@@ -12,6 +12,7 @@ use crate::worker::Errand;
 use crossbeam_channel::Sender;
 use futures::channel::oneshot;
 use hdl_client::Reply;
+use hdl_forms::TokenKey;
 use hdl_msg::ResponseCode;
 use hdl_name::Name;
 use hdl_proxy::{Answer, HOPS_MOST, Next, NoAnswer, Question, Site, finish, next_step};
@@ -51,6 +52,8 @@ pub struct Board<R> {
     pub(crate) limit: u64,
     /// Whether handles are changed.
     pub(crate) writes: bool,
+    /// With what the tokens of forms are made.
+    pub(crate) tokens: TokenKey,
     /// What is kept, and replies for how many milliseconds at most, where any are.
     pub(crate) shelf: Option<Mutex<KeptAnswers>>,
     pub(crate) keeps: u64,
@@ -83,6 +86,11 @@ impl<R: Wait + Clock> Board<R> {
             Ok(time) => u64::try_from(time.as_millis()).unwrap_or(u64::MAX),
             Err(_) => u64::MAX,
         }
+    }
+
+    /// The moment, in seconds.
+    pub(crate) fn seconds(&self) -> u32 {
+        u32::try_from(self.now() / 1000).unwrap_or(u32::MAX)
     }
 
     /// A number by which one of several locations is chosen: each bit of it is as likely to be set as not (SplitMix64).
@@ -204,10 +212,26 @@ impl<R: Wait + Clock> Board<R> {
             Known::Answer(answer) => Ok(Turn::Made(Ok(answer))),
             Known::Open(question, message, turn) => {
                 let (answer, from) = oneshot::channel(self.alloc)?;
-                self.send(question, message, turn, answer);
+                self.send(question, message, turn, None, answer);
                 Ok(Turn::Coming(from))
             }
         }
+    }
+
+    /// Takes the question of whose reply a form is made, whatever is kept.
+    pub(crate) fn take_for_form(
+        &self,
+        question: Question,
+        token: Vec<u8>,
+    ) -> Result<Turn, AllocError> {
+        let Some(message) = question.message(self.alloc)? else {
+            let answer = finish(self.alloc, &question, Err(NoAnswer::Unreachable), 0)?;
+            return Ok(Turn::Made(Ok(answer)));
+        };
+        let turn = self.turn(question.name.prefix())?.into_iter();
+        let (answer, from) = oneshot::channel(self.alloc)?;
+        self.send(question, message, turn, Some(token), answer);
+        Ok(Turn::Coming(from))
     }
 
     /// Sends a question on its way to these servers.
@@ -216,6 +240,7 @@ impl<R: Wait + Clock> Board<R> {
         question: Question,
         message: Vec<u8>,
         turn: IntoIter<usize>,
+        token: Option<Vec<u8>>,
         answer: oneshot::Sender<Made>,
     ) {
         self.forward(Ask {
@@ -225,6 +250,7 @@ impl<R: Wait + Clock> Board<R> {
             turn,
             missed: Miss::Elsewhere,
             since: 0,
+            token,
             answer,
         });
     }
@@ -233,7 +259,7 @@ impl<R: Wait + Clock> Board<R> {
     fn resume(&self, question: Question, answer: oneshot::Sender<Made>) {
         match self.find_known(question, None) {
             Ok(Known::Open(question, message, turn)) => {
-                self.send(question, message, turn, answer);
+                self.send(question, message, turn, None, answer);
             }
             Ok(Known::Answer(made)) => drop(answer.send(Ok(made))),
             Err(refused) => drop(answer.send(Err(refused))),

@@ -2,14 +2,15 @@
 
 use crate::answering::{Answering, Guest, ResponseContext};
 use crate::board::Board;
-use crate::gathering::{BODY_MOST, BODY_SECONDS, Counter, Gathering, Turn};
+use crate::gathering::{BODY_MOST, BODY_SECONDS, Counter, Gathering, Purpose, Turn};
 use crate::log::Open;
 use crate::text::{OwnText, TextKind};
 use crate::ways::KeptRedirect;
 use bytes::Bytes;
+use hdl_forms::{FormPlace, Offer, Sender, form_at, form_question, new_page, refuse_foreign};
 use hdl_proxy::{Next, begin};
-use hdl_writes::{Begun, Order, SentRequest, begin_with_key};
-use http::header::{AUTHORIZATION, IF_NONE_MATCH};
+use hdl_writes::{Begun, SentRequest, begin_with_key};
+use http::header::{AUTHORIZATION, AsHeaderName, HOST, IF_NONE_MATCH, ORIGIN};
 use http_body_util::combinators::Collect;
 use http_body_util::{BodyExt, Full, Limited};
 use hyper::body::Incoming;
@@ -33,9 +34,12 @@ pub struct Desk<R> {
 #[derive(Drop)]
 enum Start<R> {
     Turn(Turn),
-    /// An order, and who carries it out.
-    Order(Order, Counter<R>),
+    /// It waits for its body, and then this takes it.
+    Body(Purpose, Counter<R>),
 }
+
+/// The field by which a browser says whether a page of the same site sent a request (Fetch Metadata).
+const SITE: &str = "sec-fetch-site";
 
 /// What a request says in its first line.
 fn first_line<B>(req: &Request<B>) -> SentRequest<'_> {
@@ -47,16 +51,34 @@ fn first_line<B>(req: &Request<B>) -> SentRequest<'_> {
     }
 }
 
-/// What a request says in its head.
-fn sent_by<B>(req: &Request<B>) -> SentRequest<'_> {
-    let authorization = match req.headers().get(AUTHORIZATION) {
+/// A field of a request's head.
+fn field<'a, B, K: AsHeaderName>(req: &'a Request<B>, name: K) -> Option<&'a [u8]> {
+    match req.headers().get(name) {
         Some(value) => Some(value.as_bytes()),
         None => None,
-    };
+    }
+}
+
+/// What a request says in its head.
+fn sent_by<B>(req: &Request<B>) -> SentRequest<'_> {
     SentRequest {
-        authorization,
+        authorization: field(req, AUTHORIZATION),
         ..first_line(req)
     }
+}
+
+/// What a request says of the page that sent it.
+fn sender_of<B>(req: &Request<B>) -> Sender<'_> {
+    Sender {
+        site: field(req, SITE),
+        origin: field(req, ORIGIN),
+        host: field(req, HOST),
+    }
+}
+
+/// The form to which a page leads that has this address.
+fn offer_at(path: &str) -> Offer {
+    if path == "/" { Offer::Create } else { Offer::Change }
 }
 
 /// The path of a request that is answered by its path alone.
@@ -99,13 +121,51 @@ impl<R: Wait + Clock + Copy + Drop> Desk<R> {
         match begin_with_key(self.alloc, sent)? {
             Begun::Answer(answer) => Ok(Start::Turn(Turn::Made(Ok(answer)))),
             Begun::Other => Ok(Start::Turn(self.take(sent)?)),
-            Begun::Order(order) => {
-                let counter = Counter {
-                    alloc: self.alloc,
-                    board: Arc::try_clone(&self.board)?,
-                };
-                Ok(Start::Order(order, counter))
+            Begun::Order(order) if order.takes_body() => {
+                Ok(Start::Body(Purpose::Order(order), self.counter()?))
             }
+            Begun::Order(order) => Ok(Start::Turn(self.counter()?.take(order, Bytes::new()))),
+        }
+    }
+
+    fn counter(&self) -> Result<Counter<R>, AllocError> {
+        Ok(Counter {
+            alloc: self.alloc,
+            board: Arc::try_clone(&self.board)?,
+        })
+    }
+
+    /// The form of a page, with a token of this moment.
+    fn show_form(&self, place: FormPlace) -> Result<Turn, AllocError> {
+        let now = self.board.seconds();
+        let token = self.board.tokens.token_of(self.alloc, place.subject(), now)?;
+        match place {
+            FormPlace::Edit(name) => {
+                let question = form_question(self.alloc, name);
+                self.board.take_for_form(question, token)
+            }
+            FormPlace::New => Ok(Turn::Made(new_page(self.alloc, &token))),
+        }
+    }
+
+    /// What a request of this form is.
+    fn start_form<B>(&self, req: &Request<B>, place: FormPlace) -> Result<Start<R>, AllocError> {
+        match req.method().as_str() {
+            "GET" | "HEAD" => Ok(Start::Turn(self.show_form(place)?)),
+            "POST" => match refuse_foreign(self.alloc, &place, sender_of(req))? {
+                Some(answer) => Ok(Start::Turn(Turn::Made(Ok(answer)))),
+                None => Ok(Start::Body(Purpose::Form(place), self.counter()?)),
+            },
+            _ => self.begin(sent_by(req)),
+        }
+    }
+
+    /// The form that a request is for, where handles are changed.
+    fn form_of(&self, sent: SentRequest<'_>) -> Result<Option<FormPlace>, AllocError> {
+        if self.board.writes {
+            form_at(self.alloc, sent.path, sent.query)
+        } else {
+            Ok(None)
         }
     }
 
@@ -123,6 +183,7 @@ impl<R: Wait + Clock + Copy + Drop> Desk<R> {
             site: Arc::try_clone(&self.board.site)?,
             known,
             changes: self.board.writes,
+            offer: offer_at(req.uri().path()),
         })
     }
 
@@ -159,7 +220,10 @@ impl<R: Wait + Clock + Copy + Drop> Desk<R> {
         if let Some(text) = self.own_text(sent)? {
             return Ok(Start::Turn(Turn::Text(text)));
         }
-        self.begin(sent)
+        match self.form_of(sent)? {
+            Some(place) => self.start_form(req, place),
+            None => self.begin(sent),
+        }
     }
 }
 
@@ -181,14 +245,11 @@ impl<R: Wait + Clock + Copy + Drop, I: Drop> Service<Request<Incoming<I>>> for D
         }
         let seen = self.read_fields(&req).ok();
         let guest = Guest { visit, seen };
-        let (order, counter) = match self.start(&req) {
-            Ok(Start::Order(order, counter)) => (order, counter),
+        let (purpose, counter) = match self.start(&req) {
+            Ok(Start::Body(purpose, counter)) => (purpose, counter),
             Ok(Start::Turn(turn)) => return Answering::next(self.alloc, guest, turn),
             Err(refused) => return Answering::next(self.alloc, guest, Turn::Made(Err(refused))),
         };
-        if !order.takes_body() {
-            return Answering::next(self.alloc, guest, counter.take(order, Bytes::new()));
-        }
         let body = Limited::new(req.into_body(), BODY_MOST).collect(self.alloc);
         let limit = Duration::from_secs(BODY_SECONDS);
         match self.timers.timeout(&self.rt, limit, body) {
@@ -197,7 +258,7 @@ impl<R: Wait + Clock + Copy + Drop, I: Drop> Service<Request<Incoming<I>>> for D
                 guest,
                 Gathering {
                     counter,
-                    order,
+                    purpose,
                     body,
                 },
             ),

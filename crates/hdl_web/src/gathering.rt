@@ -6,9 +6,11 @@ use crate::asks::Made;
 use crate::board::{Board, WAITING_MOST};
 use crate::text::OwnText;
 use crate::ways::KeptRedirect;
-use crate::worker::Errand;
+use crate::worker::{Errand, as_page};
+use bytes::Bytes;
 use crossbeam_channel::Sender;
 use futures::channel::oneshot;
+use hdl_forms::{FilledForm, FormOrder, FormPlace, FormStep, SentForm, refuse_unread, take_form};
 use hdl_msg::ResponseCode;
 use hdl_proxy::{Status, refusal};
 use hdl_writes::Order;
@@ -49,20 +51,27 @@ const ELSEWHERE: &str = "None of the servers that were asked hosts this prefix. 
 
 const CROWDED: &str = "Too many changes wait for the server. Nothing was done. Please try again.";
 
+const LARGE: &str = "The body is larger than 1048576 octets. Nothing was done.";
+
+const SLOW: &str = "The body didn't arrive within 10 seconds. Nothing was done.";
+
+/// What the body of a request belongs to.
+#[derive(Drop)]
+pub(crate) enum Purpose {
+    Order(Order),
+    Form(FormPlace),
+}
+
 impl<R: Wait + Clock> Counter<R> {
     /// Sends an order to who carries it out.
-    fn send(
-        &self,
-        errands: &Sender<Errand>,
-        turn: Vec<usize>,
-        order: Order,
-        body: bytes::Bytes,
-    ) -> Result<Turn, AllocError> {
+    fn send(&self, errands: &Sender<Errand>, turn: Vec<usize>, bundle: Bundle) -> Result<Turn, AllocError> {
+        let Bundle { order, body, form } = bundle;
         let (answer, from) = oneshot::channel(self.alloc)?;
         let errand = Errand {
             order,
             turn,
             body,
+            form,
             answer,
         };
         match errands.send(&self.board.rt, errand) {
@@ -71,56 +80,100 @@ impl<R: Wait + Clock> Counter<R> {
         }
     }
 
-    fn hand_on(&self, order: Order, body: bytes::Bytes) -> Result<Turn, AllocError> {
-        let Some((errands, turn)) = self.board.clerk(order.name.prefix())? else {
+    fn hand_on(&self, bundle: Bundle) -> Result<Turn, AllocError> {
+        let Some((errands, turn)) = self.board.clerk(bundle.order.name.prefix())? else {
             let code = ResponseCode::HandleNotFound;
-            return Ok(self.refuse_order(&order, Status::NotFound, code, ELSEWHERE));
+            return Ok(self.refuse_order(bundle, Status::NotFound, code, ELSEWHERE));
         };
         if errands.len() >= WAITING_MOST {
             let code = ResponseCode::ServerBusy;
-            return Ok(self.refuse_order(&order, Status::Unavailable, code, CROWDED));
+            return Ok(self.refuse_order(bundle, Status::Unavailable, code, CROWDED));
         }
-        self.send(errands, turn, order, body)
+        self.send(errands, turn, bundle)
     }
 
     /// Hands an order on with the body of its request.
-    pub(crate) fn take(&self, order: Order, body: bytes::Bytes) -> Turn {
-        match self.hand_on(order, body) {
-            Ok(turn) => turn,
-            Err(refused) => Turn::Made(Err(refused)),
+    pub(crate) fn take(&self, order: Order, body: Bytes) -> Turn {
+        turn_of(self.hand_on(Bundle {
+            order,
+            body,
+            form: None,
+        }))
+    }
+
+    fn refuse_order(&self, bundle: Bundle, status: Status, code: ResponseCode, why: &str) -> Turn {
+        let made = refusal(self.alloc, status, bundle.order.name.sent(), code.number(), why);
+        Turn::Made(as_page(self.alloc, bundle.form, made))
+    }
+
+    /// What is next for a form with this body.
+    fn take_form(&self, place: &FormPlace, body: &[u8]) -> Result<Turn, AllocError> {
+        let sent = SentForm {
+            now: self.board.seconds(),
+            body,
+        };
+        match take_form(self.alloc, &self.board.tokens, place, sent)? {
+            FormStep::Page(answer) => Ok(Turn::Made(Ok(answer))),
+            FormStep::Order(FormOrder { order, body }, form) => self.hand_on(Bundle {
+                order,
+                body: Bytes::copy_from_slice(self.alloc, &body)?,
+                form: Some(form),
+            }),
         }
     }
 
-    fn refuse_order(&self, order: &Order, status: Status, code: ResponseCode, why: &str) -> Turn {
-        let handle = order.name.sent();
-        Turn::Made(refusal(self.alloc, status, handle, code.number(), why))
+    /// What is next for a request with this body.
+    fn take_body(&self, purpose: Purpose, body: Bytes) -> Turn {
+        match purpose {
+            Purpose::Order(order) => self.take(order, body),
+            Purpose::Form(place) => turn_of(self.take_form(&place, &body)),
+        }
     }
 
-    /// Hands an order on with its body, where that came whole and in time.
-    pub(crate) fn take_gathered(&self, order: Order, gathered: Gathered) -> Turn {
+    /// What is answered to a request whose body doesn't come whole.
+    fn refuse(&self, purpose: Purpose, status: Status, why: &str) -> Turn {
+        let code = ResponseCode::Error.number();
+        Turn::Made(match purpose {
+            Purpose::Order(order) => refusal(self.alloc, status, order.name.sent(), code, why),
+            Purpose::Form(place) => refuse_unread(self.alloc, &place, status),
+        })
+    }
+
+    /// Takes the body of a request, where that came whole and in time.
+    pub(crate) fn take_gathered(&self, purpose: Purpose, gathered: Gathered) -> Turn {
         match gathered {
             Ok(Ok(collected)) => match collected.to_bytes() {
-                Ok(body) => self.take(order, body),
+                Ok(body) => self.take_body(purpose, body),
                 Err(refused) => Turn::Made(Err(refused)),
             },
-            Ok(Err(LimitedError::LengthLimit)) => {
-                let why = "The body is larger than 1048576 octets. Nothing was done.";
-                self.refuse_order(&order, Status::ContentTooLarge, ResponseCode::Error, why)
-            }
+            Ok(Err(LimitedError::LengthLimit)) => self.refuse(purpose, Status::ContentTooLarge, LARGE),
             Ok(Err(_)) => Turn::Made(Err(AllocError)),
-            Err(_) => {
-                let why = "The body didn't arrive within 10 seconds. Nothing was done.";
-                self.refuse_order(&order, Status::RequestTimeout, ResponseCode::Error, why)
-            }
+            Err(_) => self.refuse(purpose, Status::RequestTimeout, SLOW),
         }
     }
 }
 
-/// An order whose body comes.
+/// An order, the body of its request, and the form that it came by, if it did.
+#[derive(Drop)]
+struct Bundle {
+    order: Order,
+    body: Bytes,
+    form: Option<FilledForm>,
+}
+
+/// What is next, or that there was no memory.
+fn turn_of(next: Result<Turn, AllocError>) -> Turn {
+    match next {
+        Ok(turn) => turn,
+        Err(refused) => Turn::Made(Err(refused)),
+    }
+}
+
+/// A request whose body comes.
 #[derive(Drop)]
 pub(crate) struct Gathering<R, B> {
     pub(crate) counter: Counter<R>,
-    pub(crate) order: Order,
+    pub(crate) purpose: Purpose,
     pub(crate) body: B,
 }
 
@@ -129,9 +182,9 @@ impl<R: Wait + Clock + Drop, B: Drop> Gathering<R, B> {
     pub(crate) fn end(self, gathered: Gathered) -> Turn {
         let Gathering {
             counter,
-            order,
+            purpose,
             body: _,
         } = self;
-        counter.take_gathered(order, gathered)
+        counter.take_gathered(purpose, gathered)
     }
 }

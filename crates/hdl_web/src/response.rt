@@ -22,6 +22,10 @@ use std::alloc::{AllocError, Global};
 const POLICY: &str =
     "default-src 'none'; style-src 'unsafe-inline'; img-src 'self'; base-uri 'none'; frame-ancestors 'none'";
 
+/// The same for pages that no one keeps, where handles are changed: their forms lead to this host alone.
+const FORM_POLICY: &str =
+    "default-src 'none'; style-src 'unsafe-inline'; img-src 'self'; form-action 'self'; base-uri 'none'; frame-ancestors 'none'";
+
 /// When a client may ask again where a server is busy or doesn't answer, in seconds: as long as a server that failed is left out.
 const RETRY_SECONDS: u64 = LEFT_OUT / 1000;
 
@@ -51,13 +55,17 @@ fn put(
 }
 
 /// The fields of a page. One that a browser leaves at once says nothing of the address that it came from, so the next site learns it.
-fn put_page(headers: &mut HeaderMap<HeaderValue>, stays: bool) -> Result<(), AllocError> {
+fn put_page(
+    headers: &mut HeaderMap<HeaderValue>,
+    stays: bool,
+    policy: &'static str,
+) -> Result<(), AllocError> {
     let html = HeaderValue::from_static("text/html; charset=utf-8");
     put(headers, CONTENT_TYPE, html)?;
     put(
         headers,
         CONTENT_SECURITY_POLICY,
-        HeaderValue::from_static(POLICY),
+        HeaderValue::from_static(policy),
     )?;
     if stays {
         put(
@@ -82,15 +90,28 @@ fn put_json(headers: &mut HeaderMap<HeaderValue>) -> Result<(), AllocError> {
     )
 }
 
-fn put_media(headers: &mut HeaderMap<HeaderValue>, media: Media) -> Result<(), AllocError> {
+/// What a page of this lifetime may load, and where its forms lead.
+fn policy_of(keeping: Keeping, changes: bool) -> &'static str {
+    if changes && keeping == Keeping::Never {
+        FORM_POLICY
+    } else {
+        POLICY
+    }
+}
+
+fn put_media(
+    headers: &mut HeaderMap<HeaderValue>,
+    media: Media,
+    policy: &'static str,
+) -> Result<(), AllocError> {
     put(
         headers,
         X_CONTENT_TYPE_OPTIONS,
         HeaderValue::from_static("nosniff"),
     )?;
     match media {
-        Media::Page => put_page(headers, true),
-        Media::Way => put_page(headers, false),
+        Media::Page => put_page(headers, true, policy),
+        Media::Way => put_page(headers, false, policy),
         Media::Json => put_json(headers),
         Media::Text => {
             let plain = HeaderValue::from_static("text/plain; charset=utf-8");
@@ -173,7 +194,8 @@ pub(crate) fn headers_of(
     changes: bool,
 ) -> Result<HeaderMap<HeaderValue>, AllocError> {
     let mut headers = HeaderMap::new(alloc);
-    put_media(&mut headers, answer.media)?;
+    let policy = policy_of(answer.keeping, changes);
+    put_media(&mut headers, answer.media, policy)?;
     put_status(alloc, &mut headers, answer, changes)?;
     put_keeping(alloc, &mut headers, answer.keeping)?;
     if let Some(tag) = &answer.tag {

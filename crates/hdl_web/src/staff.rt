@@ -9,6 +9,7 @@ use crate::servers::{Clerk, Resolver};
 use crate::ways::KeptAnswers;
 use crate::worker::{Errand, work, work_on_orders};
 use crossbeam_channel::{Receiver, Sender, unbounded};
+use hdl_forms::TokenKey;
 use hdl_proxy::Site;
 use hdl_routes::{Route, Standing};
 use std::alloc::{AllocGlobal, Global};
@@ -140,6 +141,15 @@ fn random<R: RandomSource>(rt: &R) -> io::Result<u64> {
     Ok(u64::from_be_bytes(octets))
 }
 
+/// With what tokens of forms are made: octets that no one can guess.
+fn token_key<R: RandomSource>(rt: &R) -> io::Result<TokenKey> {
+    let mut inner = [0u8; 64];
+    let mut outer = [0u8; 64];
+    rt.fill_bytes(&mut inner)?;
+    rt.fill_bytes(&mut outer)?;
+    Ok(TokenKey { inner, outer })
+}
+
 /// The board with these posts; lines of visits go to `visits`.
 fn board_of<R>(
     rt: &R,
@@ -160,6 +170,7 @@ where
         began: Instant::now(rt)?,
         limit: plan.limit,
         writes: plan.writes,
+        tokens: token_key(rt)?,
         shelf: shelf(rt, plan.keeps)?,
         keeps: plan.keeps,
         counts: Counts::new(alloc),

@@ -6,17 +6,28 @@ use crate::servers::{Clerk, Resolver};
 use bytes::Bytes;
 use crossbeam_channel::Receiver;
 use futures::channel::oneshot;
+use hdl_forms::{FilledForm, result_page};
 use hdl_writes::{Order, carry_out};
+use std::alloc::Global;
 use std::sync::Wait;
 use std::time::Clock;
 
-/// An order on its way to who carries it out, the servers that have its prefix, the body of its request, and where its answer goes.
+/// An order on its way to who carries it out, the servers that have its prefix, the body of its request, the form that it came by, if it did, and where its answer goes.
 #[derive(Drop)]
 pub struct Errand {
     pub(crate) order: Order,
     pub(crate) turn: Vec<usize>,
     pub(crate) body: Bytes,
+    pub(crate) form: Option<FilledForm>,
     pub(crate) answer: oneshot::Sender<Made>,
+}
+
+/// The answer to an order: a page where it came by a form.
+pub(crate) fn as_page(alloc: Global, form: Option<FilledForm>, made: Made) -> Made {
+    match form {
+        Some(form) => result_page(alloc, &form, &made?),
+        None => made,
+    }
 }
 
 /// Asks the server at this place what comes, until no sender is left.
@@ -42,6 +53,7 @@ pub(crate) fn work_on_orders<R: Wait + Clock, C: Clerk>(
             order,
             turn,
             body,
+            form,
             answer,
         } = errand;
         clerk.turn_to(turn);
@@ -49,6 +61,6 @@ pub(crate) fn work_on_orders<R: Wait + Clock, C: Clerk>(
         if order.changes() {
             board.forget(&order.name);
         }
-        let _ = answer.send(made);
+        let _ = answer.send(as_page(board.alloc, form, made));
     }
 }

@@ -1,0 +1,10 @@
+-- Pages that are made of templates.
+use Rattle.std.proofs.Common.{◌≡◌, ◌∙◌, ap, ℕ, List, [], ◌∷◌, ◌++◌}
+use Rattle.std.proofs.lemmas.List.{flat_map_more}
+use Rattle.hdl_forms.specs.declared.markup.Template.{Template}
+use Rattle.hdl_forms.specs.Template.{IsMade, filled, markup_of, part}
+
+-- a template at the end of a page
+pub made_more : (before after : List ℕ) (template : Template) (texts : List (List ℕ)) → IsMade before → after ≡ before ++ filled (markup_of template) texts → IsMade after
+made_more before after template texts made e =
+    (made.0 ++ (template, texts) ∷ [], e ∙ ap (λ octets. octets ++ filled (markup_of template) texts) made.1 ∙ flat_map_more part [] made.0 (template, texts))

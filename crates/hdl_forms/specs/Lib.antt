@@ -1,0 +1,7 @@
+pub mod Change
+pub mod Draft
+pub mod Offer
+pub mod Origin
+pub mod Pages
+pub mod Template
+pub mod Token

@@ -1,0 +1,45 @@
+-- Pages of templates: the markup is a template's, and what stands in a hole is text.
+use Rattle.std.specs.Prelude.{◌≡◌, ℕ, ◌==◌, if◌then◌else◌, List, [], ◌∷◌, ◌+◌, ◌++◌, flat_map, slice_get, unwrap_or}
+use Rattle.hdl_proxy.specs.Escape.{escaped}
+use Rattle.hdl_forms.specs.declared.markup.Template.{Template}
+use Rattle.hdl_forms.specs.declared.markup.Template.TheVariants as templates
+use Rattle.hdl_forms.specs.declared.markup.TheConstants.{VALUES, VALUE, NONE, ADD, GONE, CREATE, SHOWN, CONFIRM, DONE, REFUSED}
+use Rattle.hdl_forms.specs.declared.template.TheConstants.{HOLE}
+
+abbrev pub markup_of : Template → List ℕ
+markup_of templates.Values = VALUES.now
+markup_of templates.Value = VALUE.now
+markup_of templates.None = NONE.now
+markup_of templates.Add = ADD.now
+markup_of templates.Gone = GONE.now
+markup_of templates.Create = CREATE.now
+markup_of templates.Shown = SHOWN.now
+markup_of templates.Confirm = CONFIRM.now
+markup_of templates.Done = DONE.now
+markup_of templates.Refused = REFUSED.now
+
+-- the text of this place, and an empty one behind the last
+abbrev pub text_at : List (List ℕ) → ℕ → List ℕ
+text_at texts place = unwrap_or (slice_get texts place) []
+
+-- the markup from here on, whose first hole has the text of this place
+abbrev pub filled_from : List ℕ → List (List ℕ) → ℕ → List ℕ
+filled_from [] texts place = []
+filled_from (octet ∷ markup) texts place =
+    if octet == HOLE then escaped (text_at texts place) ++ filled_from markup texts (place + 1)
+    else octet ∷ filled_from markup texts place
+
+-- the markup, with the texts in its holes in their order, each escaped
+abbrev pub filled : List ℕ → List (List ℕ) → List ℕ
+filled markup texts = filled_from markup texts 0
+
+-- a template and the texts in its holes
+abbrev pub Part : Type 0
+Part = Template × List (List ℕ)
+
+abbrev pub part : Part → List ℕ
+part x = filled (markup_of x.0) x.1
+
+-- templates of this crate one after the other, with texts in their holes, and nothing else
+abbrev pub IsMade : List ℕ → Type 0
+IsMade octets = (parts : List Part) × (octets ≡ flat_map part parts)

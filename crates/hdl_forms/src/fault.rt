@@ -1,0 +1,96 @@
+//! Faults of forms, each beside its field.
+
+use crate::change::TypedFault;
+use crate::draft::DraftFault;
+use hdl_name::NameFault;
+
+/// Where a fault is said.
+#[derive(Clone, Copy, PartialEq, Eq)]
+pub(crate) enum Field {
+    Top,
+    Handle,
+    Index,
+    Type,
+    Text,
+    Key,
+    Secret,
+}
+
+/// What is wrong with a form, and where; nothing if there are no words.
+#[derive(Clone, Copy)]
+pub(crate) struct Fault<'a> {
+    pub(crate) field: Field,
+    pub(crate) words: &'a str,
+}
+
+/// Nothing is wrong.
+pub(crate) const NO_FAULT: Fault<'static> = Fault {
+    field: Field::Top,
+    words: "",
+};
+
+impl Fault<'_> {
+    /// What is said at this field.
+    pub(crate) fn at(&self, field: Field) -> &[u8] {
+        if self.field == field {
+            self.words.as_bytes()
+        } else {
+            b""
+        }
+    }
+}
+
+fn fault_at(field: Field, words: &'static str) -> Fault<'static> {
+    Fault { field, words }
+}
+
+/// What is said of a change that can't be read. None if there was no memory.
+pub(crate) fn fault_of_draft(of: DraftFault) -> Option<Fault<'static>> {
+    match of {
+        DraftFault::Task | DraftFault::Ttl | DraftFault::Permissions => Some(fault_at(
+            Field::Top,
+            "This form isn't whole. Please open it again.",
+        )),
+        DraftFault::Index => Some(fault_at(
+            Field::Index,
+            "An index is a number from 1 to 4294967295.",
+        )),
+        DraftFault::Type => Some(fault_at(
+            Field::Type,
+            "A type is a word. One that begins with HS_ can't be changed here, but HS_ALIAS and HS_GONE.",
+        )),
+        DraftFault::Text => Some(fault_at(
+            Field::Text,
+            "Please type a text on one line, of at most 32768 bytes.",
+        )),
+        DraftFault::Url => Some(fault_at(
+            Field::Text,
+            "An address begins with https://, http://, ftp://, mailto: or doi:.",
+        )),
+        DraftFault::Memory => None,
+    }
+}
+
+/// What is said of a key that can't be read. None if there was no memory.
+pub(crate) fn fault_of_key(of: TypedFault) -> Option<Fault<'static>> {
+    match of {
+        TypedFault::Key => Some(fault_at(
+            Field::Key,
+            "A key is a number, a colon and a handle, such as 300:0.NA/10.",
+        )),
+        TypedFault::Secret => Some(fault_at(Field::Secret, "Please type the secret.")),
+        TypedFault::Memory => None,
+    }
+}
+
+/// What is said of a name that is no handle.
+pub(crate) fn fault_of_name(of: NameFault) -> Fault<'static> {
+    match of {
+        NameFault::TooLong => fault_at(Field::Handle, "The name is too long."),
+        NameFault::NotUtf8 => fault_at(Field::Handle, "The name isn't UTF-8."),
+        NameFault::NoSlash | NameFault::BadSegment | NameFault::Memory => fault_at(
+            Field::Handle,
+            "A handle is a prefix, a slash and a local name, such as 10/a.",
+        ),
+    }
+}

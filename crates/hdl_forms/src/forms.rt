@@ -1,0 +1,363 @@
+//! From a request of a form to a page, or to an order.
+
+use crate::change::{FormOrder, TypedKey, order_of};
+use crate::draft::{first_named, read_draft};
+use crate::fault::{Fault, Field, NO_FAULT, fault_of_draft, fault_of_key, fault_of_name};
+use crate::origin::{Sender, is_own};
+use crate::pages::{
+    FieldTexts, FilledForm, confirm_page, create_page, done_page, faulty_page, refused_page,
+    values_page,
+};
+use crate::token::TokenKey;
+use hdl_msg::ResponseCode;
+use hdl_name::Name;
+use hdl_proxy::{
+    Answer, Form, Found, Keeping, NoAnswer, Pair, Question, Status, finish, has_pair, read_answer,
+    read_name, read_pairs, unescape,
+};
+use serde_json::Value as Json;
+use std::alloc::{AllocError, Global};
+
+/// Where JSON is answered, and no form is.
+const API_PATH: &str = "/api/";
+
+/// What a form is for.
+#[derive(Drop)]
+pub enum FormPlace {
+    /// The values of this handle.
+    Edit(Name),
+    /// A new handle.
+    New,
+}
+
+impl FormPlace {
+    /// What its tokens are for: the handle, and nothing where it is new.
+    pub fn subject(&self) -> &[u8] {
+        match self {
+            FormPlace::Edit(name) => name.sent(),
+            FormPlace::New => b"",
+        }
+    }
+
+    /// Where it is opened again, from its own address.
+    fn address(&self) -> &'static str {
+        match self {
+            FormPlace::Edit(_) => "?edit",
+            FormPlace::New => "/?new",
+        }
+    }
+}
+
+/// The name of a handle whose form this path would be, if it is one.
+fn handle_at(alloc: Global, path: &str) -> Result<Option<Name>, AllocError> {
+    let Some(sent) = path.strip_prefix('/') else {
+        return Ok(None);
+    };
+    let octets = unescape(alloc, sent)?;
+    match read_name(alloc, &octets)? {
+        Ok(name) => Ok(Some(name)),
+        Err(_) => Ok(None),
+    }
+}
+
+/// The form at an address: `/HANDLE?edit`, or `/?new`. None where it is another one.
+pub fn form_at(alloc: Global, path: &str, query: &str) -> Result<Option<FormPlace>, AllocError> {
+    if query.is_empty() || path.starts_with(API_PATH) {
+        return Ok(None);
+    }
+    let pairs = read_pairs(alloc, query)?;
+    if path == "/" {
+        return Ok(if has_pair(&pairs, "new") {
+            Some(FormPlace::New)
+        } else {
+            None
+        });
+    }
+    if !has_pair(&pairs, "edit") {
+        return Ok(None);
+    }
+    match handle_at(alloc, path)? {
+        Some(name) => Ok(Some(FormPlace::Edit(name))),
+        None => Ok(None),
+    }
+}
+
+/// The question for the values that a form shows: all that are public, whatever is kept.
+pub fn form_question(alloc: Global, name: Name) -> Question {
+    Question {
+        name,
+        form: Form::Page,
+        indexes: Vec::new(alloc),
+        types: Vec::new(alloc),
+        append: Vec::new(alloc),
+        locatt: String::new(alloc),
+        aliases: false,
+        passed: Vec::new(alloc),
+        keeping: Keeping::Never,
+        anew: true,
+    }
+}
+
+/// The page with the forms of the handle's values, now that a server gave this.
+pub fn edit_page(
+    alloc: Global,
+    question: &Question,
+    answered: Result<&[u8], NoAnswer>,
+    token: &[u8],
+) -> Result<Answer, AllocError> {
+    match read_answer(alloc, question.name.sent(), answered)? {
+        Found::Values(values) => values_page(alloc, question.name.sent(), &values, token),
+        Found::Refused(code) if code == ResponseCode::ValueNotFound.number() => {
+            values_page(alloc, question.name.sent(), &[], token)
+        }
+        _ => finish(alloc, question, answered, 0),
+    }
+}
+
+/// The page with the form of a new handle.
+pub fn new_page(alloc: Global, token: &[u8]) -> Result<Answer, AllocError> {
+    create_page(alloc, Status::Success, b"", b"", token, NO_FAULT)
+}
+
+/// A form as it came: when, in seconds, and its body.
+#[derive(Clone, Copy)]
+pub struct SentForm<'a> {
+    pub now: u32,
+    pub body: &'a [u8],
+}
+
+/// What is next for a form.
+#[derive(Drop)]
+pub enum FormStep {
+    /// A page is answered.
+    Page(Answer),
+    /// An order is carried out, and then [`result_page`] is answered.
+    Order(FormOrder, FilledForm),
+}
+
+fn text_at<'a>(pairs: &'a [Pair], name: &str) -> &'a str {
+    first_named(pairs, name).unwrap_or("")
+}
+
+/// The texts of a value's form.
+fn texts_in(pairs: &[Pair]) -> FieldTexts<'_> {
+    FieldTexts {
+        index: text_at(pairs, "index").as_bytes(),
+        kind: text_at(pairs, "type").as_bytes(),
+        ttl: text_at(pairs, "ttl").as_bytes(),
+        permissions: text_at(pairs, "permissions").as_bytes(),
+        old: text_at(pairs, "old").as_bytes(),
+        text: text_at(pairs, "text").as_bytes(),
+    }
+}
+
+/// The page of a form that has a fault in one of its fields.
+fn fault_page(
+    alloc: Global,
+    place: &FormPlace,
+    pairs: &[Pair],
+    token: &[u8],
+    fault: Fault<'static>,
+) -> Result<Answer, AllocError> {
+    if fault.field == Field::Top {
+        return refused_page(
+            alloc,
+            Status::BadRequest,
+            "This form isn't whole",
+            "Nothing was done.",
+            place.address(),
+        );
+    }
+    match place {
+        FormPlace::New => {
+            let name = text_at(pairs, "handle").as_bytes();
+            let text = text_at(pairs, "text").as_bytes();
+            create_page(alloc, Status::BadRequest, name, text, token, fault)
+        }
+        FormPlace::Edit(name) => {
+            let is_new = text_at(pairs, "task") == "add";
+            faulty_page(alloc, name.sent(), token, is_new, texts_in(pairs), fault)
+        }
+    }
+}
+
+/// The handle that a form is about: its own, or the one that is named in it.
+fn name_in(
+    alloc: Global,
+    place: &FormPlace,
+    pairs: &[Pair],
+) -> Result<Result<Name, Fault<'static>>, AllocError> {
+    let octets = match place {
+        FormPlace::Edit(name) => name.sent(),
+        FormPlace::New => text_at(pairs, "handle").as_bytes(),
+    };
+    match read_name(alloc, octets)? {
+        Ok(name) => Ok(Ok(name)),
+        Err(fault) => Ok(Err(fault_of_name(fault))),
+    }
+}
+
+/// What is next for a form about this handle that says this change.
+fn take_filled(
+    alloc: Global,
+    name: Name,
+    form: FilledForm,
+    pairs: &[Pair],
+) -> Result<FormStep, AllocError> {
+    let Some(key) = first_named(pairs, "key") else {
+        return Ok(FormStep::Page(confirm_page(alloc, Status::Success, &form, NO_FAULT)?));
+    };
+    let secret = text_at(pairs, "secret");
+    match order_of(alloc, name, &form.draft, TypedKey { key, secret }) {
+        Ok(order) => Ok(FormStep::Order(order, form)),
+        Err(fault) => match fault_of_key(fault) {
+            Some(fault) => Ok(FormStep::Page(confirm_page(
+                alloc,
+                Status::BadRequest,
+                &form,
+                fault,
+            )?)),
+            None => Err(AllocError),
+        },
+    }
+}
+
+/// What is next for the fields of a form whose token was accepted.
+fn take_fields(
+    alloc: Global,
+    place: &FormPlace,
+    pairs: &[Pair],
+    token: Vec<u8>,
+) -> Result<FormStep, AllocError> {
+    let name = match name_in(alloc, place, pairs)? {
+        Ok(name) => name,
+        Err(fault) => return Ok(FormStep::Page(fault_page(alloc, place, pairs, &token, fault)?)),
+    };
+    match read_draft(alloc, pairs) {
+        Ok(draft) => {
+            let form = FilledForm {
+                name: Vec::from_slice(alloc, name.sent())?,
+                draft,
+                token,
+            };
+            take_filled(alloc, name, form, pairs)
+        }
+        Err(fault) => match fault_of_draft(fault) {
+            Some(fault) => Ok(FormStep::Page(fault_page(alloc, place, pairs, &token, fault)?)),
+            None => Err(AllocError),
+        },
+    }
+}
+
+/// The page that refuses a form of another site's page. None where it comes from this site.
+pub fn refuse_foreign(
+    alloc: Global,
+    place: &FormPlace,
+    sender: Sender<'_>,
+) -> Result<Option<Answer>, AllocError> {
+    if is_own(sender) {
+        return Ok(None);
+    }
+    let why = "This form came from another site";
+    let advice =
+        "Nothing was done. A form is taken only from a browser that says that its page was one of this site.";
+    Ok(Some(refused_page(alloc, Status::Forbidden, why, advice, place.address())?))
+}
+
+/// The page that refuses a form that didn't come whole.
+pub fn refuse_unread(
+    alloc: Global,
+    place: &FormPlace,
+    status: Status,
+) -> Result<Answer, AllocError> {
+    let why = "This form didn't arrive whole";
+    let advice =
+        "Nothing was done. It may have at most 1048576 bytes, and must arrive within 10 seconds.";
+    refused_page(alloc, status, why, advice, place.address())
+}
+
+fn outdated(alloc: Global, place: &FormPlace) -> Result<FormStep, AllocError> {
+    let why = "This form is too old";
+    let advice =
+        "Nothing was done. A form can be sent for an hour, and until the server starts again.";
+    Ok(FormStep::Page(refused_page(alloc, Status::Forbidden, why, advice, place.address())?))
+}
+
+/// The fields of a form's body. One that isn't text has none.
+fn fields_of(alloc: Global, body: &[u8]) -> Result<Vec<Pair>, AllocError> {
+    match str::from_utf8(body) {
+        Ok(text) => read_pairs(alloc, text),
+        Err(_) => Ok(Vec::new(alloc)),
+    }
+}
+
+/// What is next for a form of this site: it is refused where its token isn't one of this process for this, not older than an hour. Then its first fault is shown beside its field. A form without a key is shown again to be confirmed, and one with a key is an order.
+pub fn take_form(
+    alloc: Global,
+    tokens: &TokenKey,
+    place: &FormPlace,
+    sent: SentForm<'_>,
+) -> Result<FormStep, AllocError> {
+    let pairs = fields_of(alloc, sent.body)?;
+    let token = text_at(&pairs, "token").as_bytes();
+    if !tokens.accepts(alloc, place.subject(), sent.now, token)? {
+        return outdated(alloc, place);
+    }
+    let next = tokens.token_of(alloc, place.subject(), sent.now)?;
+    take_fields(alloc, place, &pairs, next)
+}
+
+/// Code and message of an answer in JSON.
+fn told_in(alloc: Global, answer: &Answer) -> Result<Option<Json>, AllocError> {
+    let Ok(text) = str::from_utf8(&answer.body) else {
+        return Ok(None);
+    };
+    match Json::from_str(alloc, text) {
+        Ok(json) => Ok(Some(json)),
+        Err(error) if error.is_memory() => Err(AllocError),
+        Err(_) => Ok(None),
+    }
+}
+
+/// Beside which field a refusal is shown.
+fn field_of(status: Status, code: Option<u64>) -> Field {
+    match status {
+        Status::Unauthorized
+            if code == Some(u64::from(ResponseCode::AuthenticationFailed.number())) =>
+            Field::Secret,
+        Status::Unauthorized | Status::Forbidden => Field::Key,
+        _ => Field::Top,
+    }
+}
+
+/// The status of a page: a browser would ask for a password by itself at 401.
+fn page_status(status: Status) -> Status {
+    match status {
+        Status::Unauthorized => Status::Forbidden,
+        other => other,
+    }
+}
+
+/// The page of what came of a form's order: that it was done, or the form again with what the answer in JSON says.
+pub fn result_page(
+    alloc: Global,
+    form: &FilledForm,
+    answer: &Answer,
+) -> Result<Answer, AllocError> {
+    if matches!(answer.status, Status::Success | Status::Created) {
+        return done_page(alloc, answer.status, form);
+    }
+    let told = told_in(alloc, answer)?;
+    let told = told.as_ref();
+    let words = told
+        .and_then(|json| json.get("message"))
+        .and_then(|json| json.as_str());
+    let code = told
+        .and_then(|json| json.get("responseCode"))
+        .and_then(|json| json.as_u64());
+    let fault = Fault {
+        field: field_of(answer.status, code),
+        words: words.unwrap_or("The server couldn't answer."),
+    };
+    confirm_page(alloc, page_status(answer.status), form, fault)
+}

@@ -1,0 +1,44 @@
+//! Forms in a browser by which handles are changed: what a form says, the order that it is, and the pages.
+//!
+//! ```text
+//! method, path, query -> form_at -> FormPlace
+//! GET:  form_question, a server's reply -> edit_page; or new_page
+//! POST: the body -> take_form -> FormStep::Page, or FormStep::Order -> carry_out (hdl_writes) -> result_page
+//! ```
+//!
+//! A change takes two forms: the first says what shall stand there, the second shows old and new, and has the key and its secret. A form is taken
+//! if its page was one of this site, and its token was made by this process for this handle within an hour.
+//!
+//! This crate has no sockets and no clock. No function that makes a page is handed a key: only [`take_form`] and [`order_of`] see one, and
+//! what they give holds it in the order alone.
+//!
+//! What it promises: `specs/Draft.antt` defines the change that a form says (`draft_in`), `specs/Change.antt` the order that it is, which names that value
+//! alone, and its JSON; `specs/Token.antt` which tokens are accepted; and `specs/Template.antt` that a page is markup of this crate with text escaped in its holes.
+//!
+//! ```rust
+//! // crates/hdl_web/src/gathering.rt
+//! match take_form(self.alloc, &self.board.tokens, place, sent)? {
+//! ```
+#![tactic(auto)]
+
+mod change;
+mod draft;
+mod fault;
+mod forms;
+mod markup;
+mod offer;
+mod origin;
+mod pages;
+mod template;
+mod token;
+
+pub use change::{FormOrder, TypedFault, TypedKey, order_of};
+pub use draft::{Draft, DraftFault, Task, read_draft};
+pub use forms::{
+    FormPlace, FormStep, SentForm, edit_page, form_at, form_question, new_page, refuse_foreign,
+    refuse_unread, result_page, take_form,
+};
+pub use offer::{Offer, with_offer};
+pub use origin::{Sender, is_own};
+pub use pages::FilledForm;
+pub use token::{FORM_LIFE, TokenKey};
