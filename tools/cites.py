@@ -2,7 +2,7 @@
 """Sees that what the pages and comments cite is there, and that docs/PROTOCOL.md has the numbers of the limits.
 
 - `FUNCTION` (`CLAUSE`, ..) of README.md, docs/ and crates/*/DECISIONS.md: some function of that name has each clause, or a record of specs/ has a field of that name.
-- CRATE `NAME`, `NAME` (`CLAUSE`, ..), and `NAME` of CRATE: that crate declares each name, and its function has each clause. In docs/PROMISES.md a name of a table
+- CRATE `NAME`, `NAME` (`CLAUSE`, ..), and `NAME` of CRATE: that crate declares each name, and its function has each clause. In docs/PROMISES.md and docs/CLIENT_PROMISES.md a name of a table
   that stands below **CRATE** is that crate's, unless its cell names another one before it.
 - must-fail `NAME`, .. and wrong `NAME`, ..: a crate has an edit of that name in that folder; and docs/WRONG.md names each edit so.
 - vectors `NAME`, ..: crates/hdl_vectors/stdin has a group of that name, which begins with a line `# NAME: WHAT`.
@@ -10,7 +10,7 @@
 - docs/PAGE.md, "SECTION" of crates/ and docs/: the page has a heading that begins so.
 - tools/NAME, bench/NAME and examples/NAME, wherever they are named: there is such a file (words in capitals stand for any). A file of tools/ or
   bench/ that nothing names or imports is told too.
-- docs/DESIGN.md, "Seven ways": in the first column CRATE `FILE`, `FILE` (`FUNCTION`): the crate has a file of src/ of each name, and a function of
+- docs/DESIGN.md, "Five ways": in the first column CRATE `FILE`, `FILE` (`FUNCTION`): the crate has a file of src/ of each name, and a function of
   each name in parentheses.
 - The kit of README.md, docs/TOOLCHAIN.md and `--version` is one, and CHANGES.md has the version.
 - docs/PROTOCOL.md, "Limits": each row has the number of its constant, and each number of hdl_limits' `numbers` has a row.
@@ -38,6 +38,7 @@ OF_CRATE = re.compile(r"\b(hdl_\w+|handled) ((?:`\w+(?:::\w+)*`(?: \([^)]*\))?(?
 BEFORE_CRATE = re.compile(SPAN + r" of (hdl_\w+)")
 LIMIT = re.compile(r"^    ensures \w+ \{ (\w+) ≡ (\d+) \}$", re.MULTILINE)
 INPUT_LIMIT = re.compile(r"^pub const (INPUT_LIMIT): usize = ([\d_]+);$", re.MULTILINE)
+PROMISES = ("docs/PROMISES.md", "docs/CLIENT_PROMISES.md")
 NUMERALS = {"two": "2", "eight": "8", "ten": "10"}
 OPTIONS, LISTENING, LIMITS = "crates/hdl_server_options/src/commands.rt", "crates/hdl_listeners/src/listening.rt", "crates/hdl_limits/src/lib.rt"
 PROXY, GATHERING, ASKING, REASONS = "crates/hdl_web/src/words.rt", "crates/hdl_web/src/gathering.rt", "crates/hdl_commands/src/asking.rt", "crates/hdl_check/src/reasons.rt"
@@ -149,7 +150,7 @@ def cited_of_crates():
         if line.startswith("#"):
             section = None
         bold = re.match(r"\*\*(hdl_\w+|handled)\*\*", line)
-        section = bold[1] if bold and path == "docs/PROMISES.md" else section
+        section = bold[1] if bold and path in PROMISES else section
         for cell in line.split("|"):
             for crate, listed in OF_CRATE.findall(cell):
                 yield from ((path, number, crate, name, clauses) for name, clauses in CITED.findall(listed))
@@ -233,7 +234,7 @@ def missing_links():
 
 
 def missing_stations():
-    page = text_of("docs/DESIGN.md").split("\n## Seven ways")[1].split("\n## ")[0]
+    page = text_of("docs/DESIGN.md").split("\n## Five ways")[1].split("\n## ")[0]
     for cell in re.findall(r"^\| ([^|]*) \|", page, re.MULTILINE):
         for crate, rest in re.findall(r"(hdl_\w+|hdl)\b(.*?)(?=\bhdl_|$)", cell):
             sources = files("crates/%s/src/**/*.rt" % crate)
@@ -243,7 +244,7 @@ def missing_stations():
             outside = re.sub(r"\([^)]*\)", "", rest)
             for named, known in ((re.findall(r"`(\w+)`", outside), there), (re.findall(r"`(\w+)`", inside), functions)):
                 for name in set(named) - known:
-                    yield "docs/DESIGN.md, Seven ways: %s has no %s" % (crate, name)
+                    yield "docs/DESIGN.md, Five ways: %s has no %s" % (crate, name)
 
 
 def wrong_limits():
