@@ -1,5 +1,5 @@
-//! A table that keeps what was read last: through the bound, beside one that keeps nothing, over one that refuses to be asked again, and with
-//! more handles than it keeps.
+//! A table that keeps what was read last: through the bound, beside one that keeps nothing, over one that refuses to be asked again, with
+//! a handle that is too large, and with more handles than it keeps.
 
 use crate::agreement::writes_agree;
 use crate::assertion::same;
@@ -82,6 +82,43 @@ fn a_kept_handle_is_not_asked_for(rt: HostRuntime) -> Result<(), Fail> {
     let fuse = Fuse::new(PlainRows::new(rt.alloc()), 4, u64::MAX);
     let mut cached = CachedRows::new(rt.alloc(), fuse, LIMIT_DEFAULT, RandomState::new(&rt)?)?;
     keeps(&rt, rt.alloc(), &mut cached)
+}
+
+/// Whether the handle has just one value, whose head has this index.
+fn has_head<R: Rows>(rows: &mut R, place: &Reference) -> Result<bool, Fail> {
+    Ok(match rows.heads(&place.name)? {
+        Some(heads) => are(&heads, &[(place.index, b"")]),
+        None => false,
+    })
+}
+
+/// Of a handle whose value costs too much the head is kept. So the table is asked for the value alone.
+fn keeps_heads<R: Rows>(rt: &impl Abort, alloc: Global, rows: &mut R) -> Result<(), Fail> {
+    let place = reference(alloc, b"10.abc/x", 2)?;
+    let other = reference(alloc, b"10.abc/x", 3)?;
+    create(
+        rt,
+        rows,
+        &place.name,
+        &[value(alloc, 2, b"URL", &[7; 1_000])?],
+    )?;
+    for turn in 0..2u32 {
+        same(rt, turn, has_head(rows, &place)?, true);
+    }
+    assert!(rt; rows.exists(&place.name)?);
+    assert!(rt; rows.at(&other)?.is_none());
+    same(rt, "its value", rows.at(&place).is_err(), true);
+    same(rt, "all values", rows.values(&place.name).is_err(), true);
+    same(rt, "refusals", rows.refusals(), 2);
+    Ok(())
+}
+
+/// The table answers three calls, two to make a handle and one to look at it.
+#[test]
+fn heads_of_a_large_handle_are_kept(rt: HostRuntime) -> Result<(), Fail> {
+    let fuse = Fuse::new(PlainRows::new(rt.alloc()), 4, u64::MAX);
+    let mut cached = CachedRows::new(rt.alloc(), fuse, SMALL, RandomState::new(&rt)?)?;
+    keeps_heads(&rt, rt.alloc(), &mut cached)
 }
 
 fn place_of(alloc: Global, number: u32) -> Result<Reference, Fail> {
