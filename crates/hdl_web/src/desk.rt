@@ -78,7 +78,11 @@ fn sender_of<B>(req: &Request<B>) -> Sender<'_> {
 
 /// The form to which a page leads that has this address.
 fn offer_at(path: &str) -> Offer {
-    if path == "/" { Offer::Create } else { Offer::Change }
+    if path == "/" {
+        Offer::Create
+    } else {
+        Offer::Change
+    }
 }
 
 /// The path of a request that is answered by its path alone.
@@ -138,7 +142,10 @@ impl<R: Wait + Clock + Copy + Drop> Desk<R> {
     /// The form of a page, with a token of this moment.
     fn show_form(&self, place: FormPlace) -> Result<Turn, AllocError> {
         let now = self.board.seconds();
-        let token = self.board.tokens.token_of(self.alloc, place.subject(), now)?;
+        let token = self
+            .board
+            .tokens
+            .token_of(self.alloc, place.subject(), now)?;
         match place {
             FormPlace::Edit(name) => {
                 let question = form_question(self.alloc, name);

@@ -64,7 +64,12 @@ pub(crate) enum Purpose {
 
 impl<R: Wait + Clock> Counter<R> {
     /// Sends an order to who carries it out.
-    fn send(&self, errands: &Sender<Errand>, turn: Vec<usize>, bundle: Bundle) -> Result<Turn, AllocError> {
+    fn send(
+        &self,
+        errands: &Sender<Errand>,
+        turn: Vec<usize>,
+        bundle: Bundle,
+    ) -> Result<Turn, AllocError> {
         let Bundle { order, body, form } = bundle;
         let (answer, from) = oneshot::channel(self.alloc)?;
         let errand = Errand {
@@ -102,7 +107,13 @@ impl<R: Wait + Clock> Counter<R> {
     }
 
     fn refuse_order(&self, bundle: Bundle, status: Status, code: ResponseCode, why: &str) -> Turn {
-        let made = refusal(self.alloc, status, bundle.order.name.sent(), code.number(), why);
+        let made = refusal(
+            self.alloc,
+            status,
+            bundle.order.name.sent(),
+            code.number(),
+            why,
+        );
         Turn::Made(as_page(self.alloc, bundle.form, made))
     }
 
@@ -114,11 +125,14 @@ impl<R: Wait + Clock> Counter<R> {
         };
         match take_form(self.alloc, &self.board.tokens, place, sent)? {
             FormStep::Page(answer) => Ok(Turn::Made(Ok(answer))),
-            FormStep::Order(FormOrder { order, body }, form) => self.hand_on(Bundle {
-                order,
-                body: Bytes::copy_from_slice(self.alloc, &body)?,
-                form: Some(form),
-            }),
+            FormStep::Order(ordered, form) => {
+                let FormOrder { order, body } = ordered;
+                self.hand_on(Bundle {
+                    order,
+                    body: Bytes::copy_from_slice(self.alloc, &body)?,
+                    form: Some(form),
+                })
+            }
         }
     }
 
@@ -146,7 +160,11 @@ impl<R: Wait + Clock> Counter<R> {
                 Ok(body) => self.take_body(purpose, body),
                 Err(refused) => Turn::Made(Err(refused)),
             },
-            Ok(Err(LimitedError::LengthLimit)) => self.refuse(purpose, Status::ContentTooLarge, LARGE),
+            Ok(Err(LimitedError::LengthLimit)) => self.refuse(
+                purpose,
+                Status::ContentTooLarge,
+                LARGE,
+            ),
             Ok(Err(_)) => Turn::Made(Err(AllocError)),
             Err(_) => self.refuse(purpose, Status::RequestTimeout, SLOW),
         }

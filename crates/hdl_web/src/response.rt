@@ -58,15 +58,11 @@ fn put(
 fn put_page(
     headers: &mut HeaderMap<HeaderValue>,
     stays: bool,
-    policy: &'static str,
+    policy: HeaderValue,
 ) -> Result<(), AllocError> {
     let html = HeaderValue::from_static("text/html; charset=utf-8");
     put(headers, CONTENT_TYPE, html)?;
-    put(
-        headers,
-        CONTENT_SECURITY_POLICY,
-        HeaderValue::from_static(policy),
-    )?;
+    put(headers, CONTENT_SECURITY_POLICY, policy)?;
     if stays {
         put(
             headers,
@@ -91,18 +87,18 @@ fn put_json(headers: &mut HeaderMap<HeaderValue>) -> Result<(), AllocError> {
 }
 
 /// What a page of this lifetime may load, and where its forms lead.
-fn policy_of(keeping: Keeping, changes: bool) -> &'static str {
+fn policy_of(keeping: Keeping, changes: bool) -> HeaderValue {
     if changes && keeping == Keeping::Never {
-        FORM_POLICY
+        HeaderValue::from_static(FORM_POLICY)
     } else {
-        POLICY
+        HeaderValue::from_static(POLICY)
     }
 }
 
 fn put_media(
     headers: &mut HeaderMap<HeaderValue>,
     media: Media,
-    policy: &'static str,
+    policy: HeaderValue,
 ) -> Result<(), AllocError> {
     put(
         headers,
