@@ -49,7 +49,7 @@ def unread(status):
     return ("HTTP/1.1 %d %s\r\nconnection: close\r\ncontent-length: 0\r\n\r\n" % (status, REASONS[status])).encode()
 
 
-def fields_of(media, status, kept, body, location=None, methods="GET, HEAD"):
+def fields_of(media, status, kept, body, location=None, methods="GET, HEAD", cited=None):
     """The fields of an answer in their order: what its body is, what its status asks for, how long it may be kept, and where it leads."""
     fields = list(media)
     if status == 405:
@@ -59,15 +59,23 @@ def fields_of(media, status, kept, body, location=None, methods="GET, HEAD"):
     fields.append(("cache-control", kept))
     if status == 200 and kept != NEVER:
         fields.append(("etag", tag(body)))
+    if cited:
+        fields.append(("link", '<%s>; rel="cite-as"' % cited))
     if location:
         fields.append(("location", location))
     return fields
 
 
-def page(status, kept, title, main, **how):
-    """A page: what it is called, and all of it from its header on."""
-    body = HEAD.replace("{title}", title) + main
-    return whole(status, fields_of(PAGE, status, kept, body), body, **how)
+def page(status, kept, title, main, cited=None, **how):
+    """A page: what it is called, and all of it from its header on; `cited` is its own address and what its site is called, where it has one."""
+    head, address = HEAD, None
+    if cited:
+        address, site = cited
+        named = (("url", address), ("title", title[:-len(" - " + site)]), ("site_name", site))
+        links = '<link rel="canonical" href="%s">\n' % address + "".join('<meta property="og:%s" content="%s">\n' % pair for pair in named)
+        head = HEAD.replace("</title>\n", "</title>\n" + links)
+    body = head.replace("{title}", title) + main
+    return whole(status, fields_of(PAGE, status, kept, body, cited=address), body, **how)
 
 
 def way(kept, location, body, **how):
@@ -84,9 +92,9 @@ def words(status, text, **how):
     return whole(status, [("content-type", "text/plain; charset=utf-8"), ("cache-control", NEVER)], text, **how)
 
 
-def counts(text):
+def counts(text, **how):
     """What the proxy counts, in the text format of Prometheus."""
-    return whole(200, [("content-type", "text/plain; version=0.0.4; charset=utf-8"), ("cache-control", NEVER)], text)
+    return whole(200, [("content-type", "text/plain; version=0.0.4; charset=utf-8"), ("cache-control", NEVER)], text, **how)
 
 
 def file(media, kept, body, **how):

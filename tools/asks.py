@@ -195,8 +195,8 @@ CONTROL_SAID = ["line 1: RESOLVE 10/\\u{1b}[2J: 100 handle not found", "0 succee
 # Of a server: its name, what it sends to each frame that comes, and what `hdl delete 10/c --key 300:0.NA/10` answers.
 SERVERS = (
     ("it is done", [DONE], 0, ""),
-    ("another code", [wire.frame(reply(wire.DELETE, 302, wire.reference(b"0.NA/10", 0)), 0, 1)], 1, "hdl: 302 service referral"),
-    ("busy", [wire.frame(wire.short_reply(3), 0, 1)], 1, "hdl: 3 server busy"),
+    ("another code", [wire.frame(reply(wire.DELETE, 302, wire.reference(b"0.NA/10", 0)), 0, 1)], 1, "hdl: 302 service referral: this port doesn't serve the prefix: name its publisher's port by --server"),
+    ("busy", [wire.frame(wire.short_reply(3), 0, 1)], 1, "hdl: 3 server busy: nothing was done: try again; if it stays so, the server's /health says why"),
     ("it closes at once", [], 3, "hdl: the connection was closed"),
     ("it closes in the middle of an envelope", [DONE[:11]], 3, "hdl: the connection was closed"),
     ("it closes in the middle of a message", [DONE[:-1]], 3, "hdl: the connection was closed"),
@@ -205,15 +205,15 @@ SERVERS = (
     ("octets behind a reply", [LONG], 3, "hdl: the server sent no reply"),
     ("a piece", [b"\2\1\x20\0" + DONE[4:]], 3, "hdl: the server sent no reply"),
     ("a challenge of another request", [wire.frame(wire.challenge(DELETE_20), 1, 1)], 3, "hdl: the server challenged another request"),
-    ("a wrong key", [OWN, wire.frame(reply(wire.DELETE, 403, wire.number(0)), 1, 2)], 1, "hdl: 403 authentication failed"),
+    ("a wrong key", [OWN, wire.frame(reply(wire.DELETE, 403, wire.number(0)), 1, 2)], 1, "hdl: 403 authentication failed: the secret isn't that of the key: check HDL_SECRET"),
     ("it closes behind its challenge", [OWN], 3, "hdl: the connection was closed"),
-    ("its challenge again", [OWN, wire.frame(OWN[20:], 1, 2)], 1, "hdl: 402 authentication needed"),
+    ("its challenge again", [OWN, wire.frame(OWN[20:], 1, 2)], 1, "hdl: 402 authentication needed: give --key INDEX:HANDLE, and its secret in HDL_SECRET"),
 )
 
 KEY_REFUSED = "hdl: an HS_SECKEY value is refused on the command line, which others on this machine can read: use `hdl batch`"
 
 # Of a server that can't be reached: its words, and what is said behind them. A broadcast address has no way for a connection.
-NOBODY = "nothing listens there: is a server running? `handled serve < examples/serve.tenants` starts an example"
+NOBODY = "nothing listens there: is a server running? Ask `systemctl status handled`, or start an example by `handled serve < examples/serve.tenants`"
 NO_PORT = "not of the form HOST:PORT: write a host, a colon and a port, as in 127.0.0.1:2641"
 UNREACHED = (
     ("127.0.0.1:1", NOBODY),

@@ -1,7 +1,7 @@
 #!/usr/bin/env python3
 """Sees that what the pages and comments cite is there, and that docs/PROTOCOL.md has the numbers of the limits.
 
-- `FUNCTION` (`CLAUSE`, ..) of README.md, docs/ and crates/*/DECISIONS.md: some function of that name has each clause, or a record of specs/ has a field of that name.
+- `FUNCTION` (`CLAUSE`, ..) of README.md, docs/ and crates/*/DECISIONS.md: some function of that name has each clause, or its clauses speak of a record that has a field of that name.
 - CRATE `NAME`, `NAME` (`CLAUSE`, ..), and `NAME` of CRATE: that crate declares each name, and its function has each clause. In docs/PROMISES.md and docs/CLIENT_PROMISES.md a name of a table
   that stands below **CRATE** is that crate's, unless its cell names another one before it.
 - must-fail `NAME`, .. and wrong `NAME`, ..: a crate has an edit of that name in that folder; and docs/WRONG.md names each edit so.
@@ -28,6 +28,11 @@ NAME = r"`(?:\w+::)*(\w+)`"
 LIST = r"((?:`\w+`(?:, | and )?)+)"
 FUNCTION = re.compile(r"^\s*(?:pub(?:\(crate\))? )?fn (\w+)")
 CLAUSE = re.compile(r"^\s*(?:ensures|requires)\*? (\w+) \{")
+SAYS = re.compile(r"^\s*(?:ensures|requires)")
+WORD = re.compile(r"[A-Za-z_][\w']*")
+FIELD = re.compile(r"^  pub (\w+) :")
+TRAIT = re.compile(r"^(?:pub )?trait (\w+)", re.MULTILINE)
+TOP = re.compile(r"^(?:abbrev |unfoldable |opaque |pub |record |data )*([A-Za-z_][\w']*)")
 DECLARED = re.compile(r"\b(?:fn|struct|enum|trait|type|const|static|mod) (\w+)")
 IMPLEMENTED = re.compile(r"^impl(?:<.*?>)? (\w+)(?:<.*>)? for ", re.MULTILINE)
 VARIANT = re.compile(r"^    (?:pub )?([A-Z]\w*)(?:[,({]| \{)", re.MULTILINE)
@@ -87,22 +92,46 @@ def files(*patterns):
     return [path for path in found if "/out/" not in path and "__pycache__" not in path]
 
 
-def clauses():
-    """The clauses of the functions of each name."""
+class Contract:
+    """The names of a function's clauses, and the words that they say."""
+
+    def __init__(self):
+        self.names, self.words = set(), set()
+
+
+def contracts(*patterns):
+    """The contracts of the functions of each name, as one."""
     found = {}
-    for path in files("crates/*/src/**/*.rt"):
+    for path in files(*patterns):
         current = None
         for line in text_of(path).splitlines():
             if FUNCTION.match(line):
-                current = found.setdefault(FUNCTION.match(line)[1], set())
-            elif CLAUSE.match(line) and current is not None:
-                current.add(CLAUSE.match(line)[1])
+                current = found.setdefault(FUNCTION.match(line)[1], Contract())
+            elif SAYS.match(line) and current is not None:
+                current.names |= set(CLAUSE.findall(line))
+                current.words |= set(WORD.findall(line))
     return found
 
 
-def fields():
-    """The fields of all records of definitions."""
-    return {name for path in files("crates/*/specs/*.antt") for name in re.findall(r"^  pub (\w+) :", text_of(path), re.MULTILINE)}
+def definitions():
+    """The fields of each definition that is a record, and the words that each definition says."""
+    found = {}
+    for path in files("crates/*/specs/*.antt"):
+        current = None
+        for line in text_of(path).splitlines():
+            if re.match(r"[A-Za-z]", line) and not line.startswith("use "):
+                current = found.setdefault(TOP.match(line)[1], (set(), set()))
+            if current is not None and not line.startswith("--"):
+                current[0].update(FIELD.findall(line))
+                current[1].update(WORD.findall(line))
+    return found
+
+
+def fields_of(contract, defined):
+    """The fields of the records that a contract names, or that a definition names which it names."""
+    near = {word for word in contract.words if word in defined}
+    near |= {word for name in near for word in defined[name][1] if word in defined}
+    return {field for name in near for field in defined[name][0]}
 
 
 def pages():
@@ -113,33 +142,29 @@ def pages():
 
 
 def missing_clauses():
-    of, records = clauses(), fields()
+    of, defined = contracts("crates/*/src/**/*.rt"), definitions()
     for path, number, line in pages():
         for name, cited in re.findall(NAME + r" \(" + LIST + r"\)", line):
             for clause in re.findall(r"\w+", cited.replace(" and ", " ")):
-                if name in of and clause not in of[name] and clause not in records:
+                if name in of and clause not in of[name].names | fields_of(of[name], defined):
                     yield "%s:%d: %s has no clause %s" % (path, number, name, clause)
 
 
 class Crate:
-    """What a crate declares: functions with their clauses, types, constants, modules and files, variants, definitions and what it exports again."""
+    """What a crate declares: functions with their contracts, types, constants, modules and files, variants, definitions with their fields and what it exports again."""
 
     def __init__(self, name):
-        self.names, self.clauses = {name}, {}
+        self.contracts = contracts("crates/%s/src/**/*.rt" % name)
+        self.names, self.fields = {name}, set()
         for path in files("crates/%s/src/**/*.rt" % name):
-            current = None
             self.names.add(os.path.basename(path)[: -len(".rt")])
             text = text_of(path)
-            for line in text.splitlines():
-                if FUNCTION.match(line):
-                    current = self.clauses.setdefault(FUNCTION.match(line)[1], set())
-                elif CLAUSE.match(line) and current is not None:
-                    current.add(CLAUSE.match(line)[1])
             self.names |= set(DECLARED.findall(text)) | set(VARIANT.findall(text)) | set(IMPLEMENTED.findall(text))
             for used in re.findall(r"^pub use ([^;]+);", text, re.MULTILINE):
                 self.names |= set(re.findall(r"\w+", used))
         for path in files("crates/%s/specs/**/*.antt" % name):
             self.names |= {os.path.basename(path)[: -len(".antt")]} | set(DEFINED.findall(text_of(path)))
+            self.fields |= {field for line in text_of(path).splitlines() for field in FIELD.findall(line)}
         self.names |= {os.path.basename(path).partition(".")[0] for path in files("crates/%s/proofs/**/*.antt" % name, "crates/%s/data/*" % name)}
 
 
@@ -162,18 +187,25 @@ def cited_of_crates():
 
 
 def missing_names():
-    crates, records = {name: Crate(name) for name in os.listdir("crates") if os.path.isdir("crates/%s/src" % name)}, fields()
+    crates, defined = {name: Crate(name) for name in os.listdir("crates") if os.path.isdir("crates/%s/src" % name)}, definitions()
+    anywhere = contracts("crates/*/src/**/*.rt")
+    traits = {trait for path in files("crates/*/src/**/*.rt") for trait in TRAIT.findall(text_of(path))}
     for path, number, crate, name, clauses in cited_of_crates():
         if crate not in crates:
             yield "%s:%d: there is no crate %s" % (path, number, crate)
             continue
-        known = crates[crate].names | set(crates[crate].clauses)
+        known = crates[crate].names | set(crates[crate].contracts)
         for part in name.split("::"):
             if part not in known and part not in crates:
                 yield "%s:%d: %s has no %s" % (path, number, crate, part)
-        of = crates[crate].clauses.get(name.split("::")[-1])
+        *owner, method = name.split("::")
+        of = crates[crate].contracts.get(method)
+        if of and (not of.words or owner and owner[0] in traits):
+            # a trait's method has the contract that the trait gives it
+            of = anywhere[method]
+        told = of.names | fields_of(of, defined) | (known - crates[crate].fields) if of else known
         for clause in set(re.findall(r"`(\w+)`", clauses)):
-            if of is not None and clause not in of and clause not in records and clause not in known:
+            if of and clause not in told:
                 yield "%s:%d: %s of %s has no clause %s" % (path, number, name, crate, clause)
 
 

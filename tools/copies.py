@@ -242,6 +242,9 @@ def unrestored(folder, copied, file):
         yield name, refused(restore(bad, file), b"restore: the copy isn't taken, and the table stays as it is: table: " + said)
         yield name + " leaves nothing", not any(left.startswith("anew.db.") for left in os.listdir(folder))
     yield "no copy", refused(restore(os.path.join(folder, "none.db"), file), b"restore: the copy can't be read: ")
+    nowhere = os.path.join(folder, "nowhere")
+    done = restore(copied, os.path.join(nowhere, "table.db"))
+    yield "no folder for the table", (done.returncode, done.stderr.decode()) == (4, "restore: cannot read the folder %s\nrestore: the folder of the table can't be read: it isn't there: make it, or check the path\n" % nowhere)
     yield "a folder as the table", refused(restore(copied, folder), b"table: cannot open: at the path is a folder")
     with open(file + ".restored", "wb") as left:
         left.write(b"kept")

@@ -113,6 +113,19 @@ def sector(octets, chance, put):
     return octets[:place] + put(SECTOR) + octets[place + SECTOR:]
 
 
+def behind_changes(log):
+    """How many octets a log has behind each change that is followed by two frames."""
+    step = FRAME + int.from_bytes(log[8:12], "big")
+    places = range(HEADER + step, used(log) - 2 * step, step)
+    return [place for place in places if any(log[place - step + 4:place - step + 8])]
+
+
+def spliced(log, chance):
+    """The log without octets right behind a change, and of those that follow enough for the front of a frame."""
+    place, step = chance.choice(behind_changes(log)), FRAME + int.from_bytes(log[8:12], "big")
+    return log[:place] + log[place + chance.randrange(1, step):]
+
+
 def judged(right, pair):
     """Whether what lies there is opened as it was, told, or lost in silence; and whether a file that is refused stays as it was."""
     with tempfile.TemporaryDirectory() as folder:
@@ -133,6 +146,9 @@ def damages(count, chance, late, early, other):
     yield "a sector of noise in the log", [(file, sector(log, chance, chance.randbytes)) for _ in range(count)], False
     yield "a sector of zeros in the log", [(file, sector(log, chance, bytes)) for _ in range(count)], False
     yield "the log cut", [(file, log[:ends * place // count]) for place in range(count)], True
+    yield "the log cut behind a change", [(file, log[:place]) for place in behind_changes(log)[:count]], True
+    yield "octets cut out of the log behind a change", [(file, spliced(log, chance)) for _ in range(count)], True
+    yield "the log cut behind a change, and noise there", [(file, log[:chance.choice(behind_changes(log))] + chance.randbytes(300)) for _ in range(count)], True
     yield "the file cut", [(whole[0][:len(whole[0]) * place // count], whole[1]) for place in range(count)], True
     yield "the log taken away", [(file, None), (file, b""), (whole[0], None)], True
     yield "the file taken away", [(None, log), (b"", log), (b"", whole[1])], True

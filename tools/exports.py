@@ -234,7 +234,16 @@ def moved(folder):
     yield "a publisher that rests on others", (other.returncode, sorted(stamped(line) for line in other.stdout.decode().splitlines() if line.startswith("value 30"))) == (0, expected(COVER[2:]))
     none = export(given, "--table", file, "--publisher", "none")
     yield "no such publisher", (none.returncode, none.stdout, none.stderr.split(b"\n")[0]) == (2, b"", b"error: invalid value 'none' for '--publisher <NAME>': the tenants text has no publisher of this name")
+    yield from unhosted(file, ports, {canonical(row) for row in rows} | {handle for handle, _ in CREATED[:2]})
     yield from unsaid(given, file, ports)
+
+
+def unhosted(file, ports, handles):
+    """Of prefixes that the text lacks it is told how many handles are left out."""
+    done = export(text(["acme"], ports, []), "--table", file)
+    counts = [(prefix, sum(handle.startswith((prefix + b"/", b"0.na/" + prefix)) for handle in handles)) for prefix in (b"20", b"30")]
+    said = b"".join(b'export: the text has no line for the prefix "%s": %d handles are left out\n' % one for one in counts)
+    yield "prefixes that the text lacks", (done.returncode, done.stderr) == (0, said)
 
 
 def unsaid(given, file, ports):

@@ -1,9 +1,10 @@
 """forms.py: changes handles by the forms of the proved program crates/hdl_web/out/hdl_web (`hdl proxy --writes`) as a browser without scripts does: it reads each page, fills in
 its fields and sends them. Behind it is a real server (the proved program crates/handled/out/handled).
 
-Seen as well: forms of other sites and forms without their token are refused, faults stand beside their fields, all text is escaped, and no page and no log has the secret. It takes
+Seen as well: what another client changed meanwhile isn't overwritten, forms of other sites and forms without their token are refused, faults stand beside their fields, all text is escaped, and no page and no log has the secret. It takes
 some 3 seconds. Its last line is 'N passed, M failed', a case counting one."""
 
+import base64
 import contextlib
 import html.parser
 import http.client
@@ -238,6 +239,86 @@ def created(one):
     yield "it isn't created twice", (one.status, one.page.faults) == (409, {"alert": "This handle is there already."}) and one.values(path)[1][1] == OLD
 
 
+def by_another(one, **value):
+    """Another client puts a value of the handle, or removes it: whether that was done."""
+    other = Browser(one.port)
+    words = ":".join(urllib.parse.quote(part, safe="") for part in (ADMIN, SECRET))
+    fields = {"Authorization": "Basic " + base64.b64encode(words.encode()).decode()}
+    path = "/api/handles%s?index=%d" % (PATH, value["index"])
+    if "data" in value:
+        other.request("PUT", path, json.dumps(value), fields)
+    else:
+        other.request("DELETE", path, fields=fields)
+    return other.status == 200
+
+
+def meanwhile(one):
+    third = "https://example.org/third"
+    url = {"index": 5, "type": "URL", "ttl": 3600}
+
+    def there():
+        return Browser(one.port).values()
+
+    def shown():
+        one.get(PATH + "?edit")
+        one.send(text=NEW)
+
+    def texts():
+        return [one.page.words[one.page.words.index(word) + 1] for word in ("Your form showed", "Now", "Your change")]
+
+    shown()
+    yield "another client changes the value", by_another(one, data=third, **url)
+    before = there()
+    one.confirm()
+    yield "what changed isn't overwritten", one.status == 409 and is_form_page(one) and there() == before
+    shown()
+    by_another(one, data=OLD, **url)
+    one.confirm()
+    yield "the page has all three texts", one.status == 409 and texts() == [third, OLD, NEW] and one.page.forms[0][2]["old"] == OLD
+    by_another(one, data=third, **url)
+    one.confirm()
+    yield "it changed once more", one.status == 409 and texts() == [OLD, third, NEW]
+    one.confirm(secret="wrong")
+    yield "going on needs the secret", (one.status, one.page.faults) == (403, {"secret-fault": "The secret isn't that of the key."})
+    one.confirm()
+    yield "one may go on", one.status == 200 and there()[5] == ("URL", NEW, 3600, None)
+    shown()
+    by_another(one, data=NEW, index=5, type="URL", ttl=60)
+    one.confirm(text=OLD)
+    yield "another TTL counts too", one.status == 409 and texts() == [NEW, NEW, OLD]
+    one.confirm()
+    yield "and stays", one.status == 200 and there()[5] == ("URL", OLD, 60, None)
+    shown()
+    by_another(one, data=third, index=5, type="URL", ttl=3600, permissions="1100")
+    one.confirm()
+    yield "a value that was hidden isn't shown", one.status == 409 and third not in " ".join(one.page.words) and not one.page.forms and "?edit" in one.page.links
+    by_another(one, data=OLD, **url)
+    shown()
+    by_another(one, data=OLD, index=5, type="NOTE", ttl=3600)
+    one.confirm()
+    yield "a value of another type", one.status == 409 and not one.page.forms and there()[5][0] == "NOTE"
+    by_another(one, data=OLD, **url)
+    one.get(PATH + "?edit")
+    one.send(button=1)
+    by_another(one, index=5)
+    one.confirm()
+    yield "what isn't there can't be removed", one.status == 409 and not one.page.forms
+    by_another(one, data=OLD, **url)
+    shown()
+    by_another(one, index=5)
+    one.confirm()
+    yield "what was removed", one.status == 409 and texts() == [OLD, "(nothing)", NEW] and 5 not in there()
+    one.confirm()
+    yield "is added", one.status == 200 and there()[5] == ("URL", NEW, 3600, None)
+    by_another(one, data=OLD, **url)
+    one.get(PATH + "?edit")
+    one.send(button=1)
+    by_another(one, data=third, **url)
+    one.confirm()
+    yield "a change isn't removed", one.status == 409 and texts() == [OLD, third, "(nothing)"]
+    by_another(one, data=OLD, **url)
+
+
 def refused(one):
     before = one.values()
     for name, sender in (("another site", {"Sec-Fetch-Site": "cross-site"}), ("another host of the site", {"Sec-Fetch-Site": "same-site", "Origin": "http://127.0.0.1:%d" % one.port}),
@@ -298,7 +379,7 @@ def main():
             cases += without_the_word(port)
         with proxy(behind, "--writes", "--log", log) as port:
             one = Browser(port)
-            for part in (changed, added, gone, created, refused):
+            for part in (changed, added, gone, created, meanwhile, refused):
                 cases += part(one)
             with open(log, encoding="utf-8") as lines:
                 one.came.append(lines.read())

@@ -1,12 +1,13 @@
 #!/usr/bin/env python3
-"""Random and mutated frames, messages and tenants texts for `handled replay`, a process for each script.
+"""Random and mutated frames, messages and tenants texts for `handled replay`, a process for each script and table.
 
-    tools/fuzz.py [COUNT] [SEED]       by default 1000 scripts of seed 1; needs the programs of ./test, or of `rt run` in both crates
+    tools/fuzz.py [COUNT] [SEED]       by default 1000 scripts of seed 1; needs the program of ./test, or of `rt run` in crates/handled
 
 The scripts grow from those of crates/hdl_scripts/data: octets are flipped, cut, spliced and repeated, lengths and counts replaced by edges,
-lines swapped and dropped, events of several scripts mixed. It fails on a crash, on a run of more than a second of processor time, on more than 200 MB of
-memory, on an output line that isn't one of the four forms, and on an exit status or a fault line that docs/PROTOCOL.md doesn't have. What
-`handled` told over the table in SQL is what `hdl_scripts` then expects over both tables, so it fails on any difference between them too.
+lines swapped and dropped, events of several scripts mixed. A script runs over a table in SQL, and over one in memory with a new file beside it
+(`--table`). It fails on a crash, on a run of more than a second of processor time (over a file ten), on more than 200 MB of memory (over a file 1,000,
+since a thread writes it), on an output line that isn't one of the four forms, on an exit status or a fault line that docs/PROTOCOL.md doesn't have,
+and on any difference between the two runs.
 Its last line is 'N passed, M failed', in scripts.
 """
 
@@ -23,17 +24,15 @@ import tempfile
 
 ROOT = os.path.dirname(os.path.dirname(os.path.abspath(__file__)))
 PROGRAM = os.path.join(ROOT, "crates", "handled", "out", "handled")
-BOTH_TABLES = os.path.join(ROOT, "crates", "hdl_scripts", "out", "hdl_scripts")
 SCRIPTS = os.path.join(ROOT, "crates", "hdl_scripts", "data", "*.script")
 EDGES = ["00000000", "00000001", "7fffffff", "80000000", "ffffffff", "40000000", "00010000", "00010001", "000001ec", "000001ed", "00000800", "00000801"]
 LINE = re.compile(rb"\d+ (silent|reply ([0-9a-f]{2})+|busy [0-9a-f]{104}|close [0-9a-f]{104})")
 FAULT = re.compile(rb"(line \d+: bad event|input too long|input not UTF-8|no memory|store refused|device fault"
                    rb"|tenants: line \d+: (bad line|prefix given twice|publisher given twice|more than 64 lanes|no memory))\n")
-MEMORY = 200 * 1024 * 1024
+# The seconds of processor time and the octets of memory that a run may take, over each of the tables.
+IN_SQL, OVER_A_FILE = (1, 200 * 1024 * 1024), (10, 1000 * 1024 * 1024)
 # Scripts with more characters are left out.
 LONGEST = 20000
-# How many scripts one process runs over both tables.
-AT_ONCE = 500
 
 
 def uncommented(name):
@@ -95,20 +94,22 @@ def made(chance, scripts):
     return ("\n".join(tenants + ["run", "open 0", "open 2"] + events) + "\n").encode()
 
 
-def limit(seconds=1):
-    resource.setrlimit(resource.RLIMIT_AS, (MEMORY, MEMORY))
+def limit(seconds, octets):
+    resource.setrlimit(resource.RLIMIT_AS, (octets, octets))
     resource.setrlimit(resource.RLIMIT_CPU, (seconds, seconds + 1))
 
 
-def run(program, script):
-    """What a program tells, or why it failed."""
+def run(script, limits, options=()):
+    """What the program tells, or why it failed."""
+    words = [PROGRAM, "replay", *options]
+    how = {"stdout": subprocess.PIPE, "stderr": subprocess.PIPE, "timeout": 60, "check": False}
     try:
-        done = subprocess.run([program], input=script, stdout=subprocess.PIPE, stderr=subprocess.PIPE, timeout=60, check=False, preexec_fn=limit)
+        done = subprocess.run(words, input=script, preexec_fn=lambda: limit(*limits), **how)
     except subprocess.TimeoutExpired:
         return None, "no end in a minute"
     told = (done.returncode, done.stdout, done.stderr)
     if done.returncode == -signal.SIGXCPU:
-        return told, "more than a second of processor time"
+        return told, "too much processor time"
     if done.returncode not in (0, 1, 3):
         return told, "exit status %d" % done.returncode
     if done.returncode != 0 and not FAULT.fullmatch(done.stderr):
@@ -118,49 +119,31 @@ def run(program, script):
     return told, None
 
 
-def keep(folder, number, script, told):
-    """Puts the script and what it told where `hdl_scripts` reads them."""
-    status, output, fault = told
-    for ending, octets in (("script", script), ("expected", output + fault + b"status %d\n" % status)):
-        with open(os.path.join(folder, "%06d.%s" % (number, ending)), "wb") as file:
-            file.write(octets)
-
-
-def differing(folder, numbers):
-    """The scripts of the folder of which the tables don't both tell what is expected, or that the program didn't come to."""
-    done = subprocess.run([BOTH_TABLES], cwd=folder, input=b"scripts\n", stdout=subprocess.PIPE, check=False, preexec_fn=lambda: limit(AT_ONCE))
-    agreed = set(done.stdout.decode().splitlines())
-    return [number for number in numbers if "%06d: as expected" % number not in agreed]
-
-
-def run_some(seed, numbers, scripts):
-    """The exit status of each of these scripts that ended, and the fault of each that has one."""
-    statuses, faults = {}, {}
+def compared(script):
+    """The exit status of a script, or why it failed over one of the tables."""
+    told, fault = run(script, IN_SQL)
+    if fault:
+        return None, fault
     with tempfile.TemporaryDirectory() as folder:
-        for number in numbers:
-            script = made(random.Random("%d %d" % (seed, number)), scripts)
-            told, fault = run(PROGRAM, script)
-            if fault:
-                faults[number] = fault
-            else:
-                statuses[number] = told[0]
-                keep(folder, number, script, told)
-        faults.update({number: "the tables differ" for number in differing(folder, statuses)})
-    return statuses, faults
+        filed, fault = run(script, OVER_A_FILE, ("--table", os.path.join(folder, "table")))
+    if fault:
+        return None, "over a file: " + fault
+    return told[0], None if filed == told else "the tables differ"
 
 
 def main():
     count, seed = [int(word) for word in sys.argv[1:]] + [1000, 1][len(sys.argv) - 1:]
-    missing = [program for program in (PROGRAM, BOTH_TABLES) if not os.access(program, os.X_OK)]
-    if missing:
-        print("fuzz: there is no %s\n0 passed, 1 failed" % missing[0])
+    if not os.access(PROGRAM, os.X_OK):
+        print("fuzz: there is no %s\n0 passed, 1 failed" % PROGRAM)
         sys.exit(1)
     scripts = [script for script in map(uncommented, sorted(glob.glob(SCRIPTS))) if len(script) < LONGEST]
     ended, faults = collections.Counter(), {}
-    for first in range(0, count, AT_ONCE):
-        statuses, some = run_some(seed, range(first, min(first + AT_ONCE, count)), scripts)
-        ended.update(statuses.values())
-        faults.update(some)
+    for number in range(count):
+        status, fault = compared(made(random.Random("%d %d" % (seed, number)), scripts))
+        if fault:
+            faults[number] = fault
+        else:
+            ended[status] += 1
     for number, fault in sorted(faults.items()):
         print("script %d of seed %d: %s" % (number, seed, fault))
     print("%d scripts of seed %d: %s" % (count, seed, ", ".join("%d ended with status %d" % (ended[status], status) for status in sorted(ended))))

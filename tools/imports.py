@@ -158,7 +158,7 @@ FAULTS = (
     (["10/f12,1,URL"], 0, FIELDS),
     (['10/f13,1,URL,"https://example.org/,1,1110'], 0, QUOTE),
     (["10/f17,1,URL,https://example.org/,1,1110\r10/f18,1,URL,https://example.org/,1,1110"], 0, RETURN),
-    (["10/f14,1,HS_ADMIN,300:0.NA/10,1,1110"], 0, "the data isn't INDEX:MASK:HANDLE"),
+    (["10/f14,1,HS_ADMIN,300:0.NA/10,1,1110"], 0, "the data isn't INDEX:MASK:HANDLE, the mask of twelve digits 0 or 1"),
     (["10/f15,1,HS_VLIST,300,1,1110"], 0, "the data isn't INDEX:HANDLE and more of them"),
     (["10/f16,1,HS_SECKEY,a secret,1,1100"], 0, "an HS_SECKEY value is refused in a CSV file: create it with `hdl batch`"),
     (["10,1,URL,https://example.org/,1,1110"], 0, "the name has no slash"),
@@ -407,7 +407,11 @@ def replaces(port):
         said = "10/none: 100 handle not found\n20/a: not a handle of this prefix\nno handle: not a handle of this prefix\n0 changed, 0 have no such URL, 3 failed\n"
         yield "handles that aren't there", hdl(port, "replace", "10", OLD, NEW, "--handles", names) == (1, said, "")
         yield "no file of handles", hdl(port, "replace", "10", OLD, NEW, "--handles", undo + ".none")[::2] == (2, "hdl: the file of handles can't be read: No such file or directory (os error 2)\n")
-    yield "a wrong secret for a replacement", hdl(port, "replace", "10", OLD, NEW, secret="wrong")[0] == 1
+        unused = undo + ".unused"
+        status, out, err = hdl(port, "replace", "10", OLD, NEW, "--undo", unused, secret="wrong")
+        yield "a wrong secret for a replacement", (status, out) == (1, "") and err.startswith("hdl: no list: 403 authentication failed: the secret isn't that of the key: check HDL_SECRET. A key may list if an HS_ADMIN value")
+        yield "nothing to undo, and no file for it", not os.path.exists(unused)
+        yield "nor after a replacement of nothing", hdl(port, "replace", "10", NEW + "none", NEW, "--handles", names, "--undo", unused)[0] == 1 and not os.path.exists(unused)
     yield "nothing to replace", hdl(port, "replace", "10", "", NEW) == (2, "", "hdl: what is replaced is empty: say how the URLs begin\n")
     yield "no prefix", hdl(port, "replace", "10/a", OLD, NEW) == (2, "", "hdl: the prefix isn't one: write it as 10 or 0.NA/10\n")
 

@@ -2,8 +2,9 @@
 
 It kills the server at random moments under writes of three clients, ROUNDS times (20), and starts it again over the same file: every change that was
 answered must be there, and of each that was in flight the whole or nothing. Then one case each: a text's handles are opened once; a file and its log are their owner's
-alone; what is written is the file that was named, and no other; what a script prints over a file is what it prints in memory; and files that are no table, are another one's, have an unsound row or can't be
-opened are refused in words, with status 4, and left as they were. sqlite3's own checks look at the files, by Python's module over SQLite 3.37 or later. Its last line is 'N passed, M failed'."""
+alone; what is written is the file that was named, and no other; a server with `--read-only` changes nothing; what a script prints over a file is what it prints in memory; a table that sqlite3 made is loaded; and files that are no table, are another
+one's, have an unsound row, of which each kind is told, or can't be opened are refused in words, with status 4, and left as they were. sqlite3's own checks look at the files, by Python's module over SQLite
+3.37 or later. Its last line is 'N passed, M failed'."""
 
 import contextlib
 import glob
@@ -46,6 +47,35 @@ def tenants(*ports, more=()):
     key = wire.value(KEY_INDEX, b"HS_SECKEY", KEY, 0x0C, 86400)
     rows = [(KEY_HANDLE, ADMINISTRATOR), (KEY_HANDLE, key), *more]
     return wire.text(lines + [wire.value_line(*row) for row in rows])
+
+
+# The three tables, as a file has them.
+TABLES = """
+CREATE TABLE handles (name BLOB NOT NULL PRIMARY KEY, authority BLOB NOT NULL) STRICT;
+CREATE TABLE entries (name BLOB NOT NULL REFERENCES handles (name) ON DELETE CASCADE, idx INTEGER NOT NULL, kind BLOB NOT NULL, bytes BLOB NOT NULL, ttl BLOB NOT NULL, perm INTEGER NOT NULL,
+    stamp BLOB NOT NULL, refs BLOB NOT NULL, PRIMARY KEY (name, idx)) STRICT;
+CREATE TABLE opened (name BLOB NOT NULL PRIMARY KEY) STRICT;"""
+PUT_HANDLE = "INSERT INTO handles (name, authority) VALUES (?, ?)"
+PUT_VALUE = "INSERT INTO entries (name, idx, kind, bytes, ttl, perm, stamp, refs) VALUES (?, ?, ?, ?, ?, ?, ?, ?)"
+# Sound rows: a handle with two values, and one with none.
+HANDLES = [(b"10/x", b"10"), (b"10/y", b"10")]
+VALUES = [(b"10/x", index, b"URL", data, b"\0" + wire.number(3600), 0x0E, bytes(8), bytes(4)) for index, data in ((7, b"seven"), (2, b"two"))]
+# What is said of an unsound row.
+CELL, NAME = b"a row of the database has a cell that can't be read", b"a row of the database has a name that is no handle in canonical form"
+AUTHORITY, ORDER = b"a row of the database has another authority than its handle", b"the rows of the database are out of order"
+# What makes the rows unsound, with what is said then.
+UNSOUND = {
+    "a name in another case": (NAME, PUT_HANDLE, b"10.ABC/x", b"10.abc"),
+    "a name without a slash": (NAME, PUT_HANDLE, b"10.abc", b"10.abc"),
+    "another authority": (AUTHORITY, PUT_HANDLE, b"10.abc/z", b"10.abd"),
+    "a negative rowid": (ORDER, "INSERT INTO handles (rowid, name, authority) VALUES (-1, ?, ?)", b"10/z", b"10"),
+    "an index below 0": (CELL, "UPDATE entries SET idx = -1 WHERE idx = 2"),
+    "an index of 33 bits": (CELL, "UPDATE entries SET idx = idx + 4294967296"),
+    "a TTL of four octets": (CELL, "UPDATE entries SET ttl = ?", wire.number(3600)),
+    "a permission of nine bits": (CELL, "UPDATE entries SET perm = 256 WHERE idx = 7"),
+    "a moment of seven octets": (CELL, "UPDATE entries SET stamp = ?", bytes(7)),
+    "references that are cut": (CELL, "UPDATE entries SET refs = ? WHERE idx = 2", wire.number(1)),
+}
 
 
 class Client(servers.Client):
@@ -218,6 +248,30 @@ def named(folder):
     return [changed and found == b"kept", files == [["acme's table", "acme's table-wal"], []]]
 
 
+def contents(file):
+    """The rows of the file and its log, as they lie."""
+    copy = file + ".read"
+    copied(file, copy)
+    with contextlib.closing(sqlite3.connect(copy)) as database:
+        return [database.execute("SELECT * FROM %s ORDER BY 1, 2" % name).fetchall() for name in ("handles", "entries")]
+
+
+def standby(folder):
+    """A server that takes no changes answers what is there, and each change at once that it does no such thing, also with the right key; its rows stay."""
+    file = os.path.join(folder, "standby.db")
+    with served(file) as port:
+        there = Client(port).create(b"10/there", b"kept") == wire.SUCCESS
+    before = contents(file)
+    with served(file, more=["--read-only"]) as port:
+        client = Client(port)
+        codes = [client.create(b"10/new", b"never"), client.modify(b"10/there", b"never"), client.delete(b"10/there")]
+        session, reply = client.send(wire.message(wire.DELETE, wire.string(b"10/there")))
+        found = [client.data_of(handle) for handle in (b"10/there", b"10/new")]
+    at_once = reply[4:8] == wire.number(wire.OPERATION_DENIED)
+    missing = refused(os.path.join(folder, "missing.db"), b"cannot open: the file isn't there", more=["--read-only"])
+    return [there, codes == [wire.OPERATION_DENIED] * 3, at_once, found == [b"kept", None], contents(file) == before, missing]
+
+
 def run(words, text, **user):
     try:
         ended = subprocess.run([servers.HANDLED, *words], input=text, capture_output=True, timeout=60 * servers.SLOWER, check=False, **user)
@@ -241,10 +295,10 @@ def sum_of(file):
         return hashlib.sha256(octets.read()).digest()
 
 
-def refused(file, line, **user):
+def refused(file, line, more=(), **user):
     """Whether a start over this file says so with status 4, prints nothing, and leaves the file as it was."""
     before = sum_of(file) if os.path.isfile(file) else None
-    status, said, fault = run(["serve", "--table", file], tenants(servers.free_ports(1)[0]), **user)
+    status, said, fault = run(["serve", "--table", file, *more], tenants(servers.free_ports(1)[0]), **user)
     after = sum_of(file) if os.path.isfile(file) else None
     good = status == 4 and not said and fault.startswith(b"table: " + line) and before == after
     if not good:
@@ -264,6 +318,31 @@ def table(folder, name, statement="SELECT 1"):
     return file
 
 
+def made_by_sqlite(folder, name, statement="SELECT 1", *cells):
+    """A table with the sound rows that sqlite3 made, after a statement."""
+    file = os.path.join(folder, name)
+    with contextlib.closing(sqlite3.connect(file)) as database:
+        database.executescript(TABLES)
+        database.executemany(PUT_HANDLE, HANDLES)
+        database.executemany(PUT_VALUE, VALUES)
+        database.execute(statement, cells)
+        database.commit()
+    return file
+
+
+def loaded(folder):
+    """Rows that were there already, by whomever they were put: a handle's values, and the names of handles."""
+    values = [wire.value(index, b"URL", data, 0x0E, 3600) for _, index, _, data, *_ in sorted(VALUES)]
+    with served(made_by_sqlite(folder, "sound.db")) as port:
+        client = Client(port)
+        found = [client.asked(wire.resolution(b"10/x")), client.asked(wire.message(wire.LIST, wire.string(b"0.NA/10")))]
+    return [found[0] == (wire.SUCCESS, wire.string(b"10/x") + wire.listed(values)), found[1] == (wire.SUCCESS, wire.listed(wire.string(name) for name, _ in HANDLES))]
+
+
+def unsound(folder):
+    return [refused(made_by_sqlite(folder, "%s.db" % name, *made), b"unsound row: %s; correct the row, or restore a copy" % said) for name, (said, *made) in UNSOUND.items()]
+
+
 def faults(folder):
     noise, foreign, cut = (os.path.join(folder, name) for name in ("noise.db", "foreign.db", "cut.db"))
     with open(noise, "wb") as octets:
@@ -280,11 +359,9 @@ def faults(folder):
         in_use,
         refused(noise, b"damaged"),
         refused(cut, b"damaged"),
+        refused(made_by_sqlite(folder, "orphan.db", "UPDATE entries SET name = ? WHERE idx = 2", b"10/z"), b"damaged"),
         refused(foreign, b"another layout"),
         refused(table(folder, "index.db", "CREATE INDEX more ON entries (idx)"), b"another layout"),
-        refused(table(folder, "name.db", "UPDATE entries SET idx = idx + 4294967296"), b"unsound row"),
-        refused(table(folder, "authority.db", "UPDATE handles SET authority = cast('11' as blob)"), b"unsound row"),
-        refused(table(folder, "kind.db", "UPDATE entries SET ttl = cast('long' as blob)"), b"unsound row"),
         refused(folder, b"cannot open: at the path is a folder"),
         refused(os.path.join(folder, "none", "table.db"), b"cannot open: the file isn't there, nor is its folder"),
         refused(":memory:", b"cannot open: the path names no file"),
@@ -340,13 +417,13 @@ def not_permitted(folder):
 def words():
     """What is said of a table's file asks for `--table`, and not for opposites."""
     both = run(["serve", "--table", "none/table.db", "--sums", "--no-sums"], b"")[0] == 2
-    return [both] + [run(["serve", word], b"")[0] == 2 for word in ("--sums", "--no-sums", "--accept-loss")]
+    return [both] + [run(["serve", word], b"")[0] == 2 for word in ("--sums", "--no-sums", "--accept-loss", "--read-only")]
 
 
 def main():
     rounds, seed = (int(word) for word in (sys.argv[1:] + [ROUNDS, SEED][len(sys.argv) - 1:])[:2])
     with tempfile.TemporaryDirectory() as folder:
-        cases = {case.__name__: case(folder) for case in (opened_once, private, named, scripts, faults)}
+        cases = {case.__name__: case(folder) for case in (opened_once, private, named, standby, scripts, loaded, unsound, faults)}
         cases["kills"] = kills(folder, rounds, seed)
     cases["words"] = words()
     for name, found in cases.items():

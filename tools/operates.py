@@ -20,7 +20,7 @@ import servers
 HDL = os.environ.get("HDL", repository.program("hdl"))
 SECTION = "## A day, from an empty folder\n"
 # the ports of the page: those of publishers, the one of the status page, and those that a text gets when a publisher moves
-PORTS = (2641, 2642, 2643, 2644, 9100)
+PORTS = (2641, 2642, 2643, 2644, 12641)
 MOVED = (3641, 3642, 3643, 3644)
 # the port of a department that the page doesn't have
 FIFTH = 2645
@@ -195,6 +195,9 @@ def departments():
     status, _, fault = ran(["check"], twice)
     yield "check tells a port that is given twice", (status, fault) == (3, said)
     yield "a server doesn't start with one", ran(["serve", "--turns", "1"], twice) == (3, "", said)
+    for word in ("check", "serve"):
+        status, _, fault = ran([word], "# nothing yet\n")
+        yield "%s refuses a text without a publisher" % word, status == 3 and fault.startswith("tenants: the text has no publisher: give each a line `publisher NAME LANES PORT`") and fault.count("\n") == 1
     with servers.serving(lambda *ports: texts(("10", ports[0])).encode(), 1) as ports:
         status, printed, fault = ran(["check"], texts(("10", ports[0]), ("20", second)))
         yield "check tells a port that is taken", status == 0 and "20: port" in printed and fault.startswith("check: 127.0.0.1:%d of 10 is taken now" % ports[0]) and fault.count("\n") == 1

@@ -40,6 +40,7 @@ ALERTS = (
     ("HandleTableFailing", "handled_table_failing", "1", "0"),
     ("HandleMemoryShort", "handled_memory_short", "1", "0"),
     ("HandleLogLost", "handled_log_lines_lost_total", "+1", "+0"),
+    ("HandleChangesSlow", "handled_commit_seconds_sum", "+20", "+1"),
     ("HandleChangesBusy", 'handled_replies_total{publisher="a",operation="other",code="3"}', "+5", "+1"),
     ("HandleKeysWrong", 'handled_replies_total{publisher="a",operation="other",code="403"}', "+9", "+1"),
     ("HandleConnectionsMany", 'handled_connections{publisher="a"}', "950", "800"),
@@ -49,7 +50,7 @@ ALERTS = (
     ("HandleProxyLogLost", "hdl_proxy_log_lines_lost_total", "+1", "+0"),
 )
 # What stands beside each of them.
-ALWAYS = (('hdl_proxy_server_asked_total{server="s"}', "+100"), ('hdl_proxy_answers_total{kind="redirect",code="302"}', "+100"))
+ALWAYS = (("handled_commit_seconds_count", "+10"), ('hdl_proxy_server_asked_total{server="s"}', "+100"), ('hdl_proxy_answers_total{kind="redirect",code="302"}', "+100"))
 
 
 def text_of(name):
@@ -119,8 +120,11 @@ def metrics():
         text = repository.text_of(path)
         for name, rest in re.findall(r"# TYPE (\w+)(\{name\})?", text):
             known |= {name + end for end in re.findall(r'\("(\w+)", *"(?:counter|gauge)"|"(\w+)",\s*"(?:counter|gauge)"', text) for end in end if end} if rest else {name}
-        if "# TYPE " in text or "_total{{" in text:
-            labels |= set(re.findall(r'[{,](\w+)=\\"', text))
+        # a histogram's lines, and gauges that stand in a list
+        known |= {name + end for name in re.findall(r"# TYPE (\w+) histogram", text) for end in ("_bucket", "_sum", "_count")}
+        known |= set(re.findall(r'"((?:handled|process)_\w+_(?:bytes|fds))"', text))
+        if "# TYPE " in text or "_total{{" in text or "_bucket{{" in text:
+            labels |= set(re.findall(r'[{},](\w+)=\\"', text))
     return known, labels
 
 
@@ -214,7 +218,8 @@ def agrees():
     yield "the server is stopped where it listens", value_of(serve, "--control") == value_of(exec_of("handled.service", "ExecStop"), "--control")
     yield "what is copied is the server's table", copying[1:2] == [value_of(serve, "--table")]
     logs = [line for line in text_of("logrotate").splitlines() if line.endswith("{")]
-    yield "what is rotated are the logs", logs == ["%s %s {" % (value_of(serve, "--log"), value_of(proxy, "--log"))]
+    yield "what is rotated are the logs", logs == ["%s {" % value_of(words, "--log") for words in (serve, proxy)]
+    yield "the server that opens its log anew is the one that runs", re.findall(r"handled reopen --control (\S+)", text_of("logrotate")) == [value_of(serve, "--control")]
     yield "what is scraped are the status pages", re.findall(r"targets: \['(.*?)'\]", text_of("prometheus.yml")) == [status, listen]
     jobs = re.findall(r"job_name: (\w+)", text_of("prometheus.yml"))
     asked = {job for text in (text_of("rules.yml"), text_of("board.json")) for found in re.findall(r'job=~?\\?"([\w|]+)', text) for job in found.split("|")}
@@ -288,7 +293,9 @@ def page_of(port, path):
 
 
 def printed(lines):
-    return {line.split()[2] for line in lines if line.startswith("# TYPE ")}
+    """The metrics that a page has, and the lines of its histograms."""
+    kinds = [line.split()[2:] for line in lines if line.startswith("# TYPE ")]
+    return {name for name, _ in kinds} | {name + end for name, kind in kinds if kind == "histogram" for end in ("_bucket", "_sum", "_count")}
 
 
 def asked_of(beginning):
@@ -388,23 +395,28 @@ def logrotate():
     if not program:
         return left_out("logrotate", "logrotate")
     with tempfile.TemporaryDirectory() as folder:
-        log = os.path.join(folder, "changes.log")
+        changes, visits = (os.path.join(folder, name) for name in ("changes.log", "visits.log"))
+        asked = os.path.join(folder, "asked")
+        os.chmod(front.put(folder, "handled", "#!/bin/sh\necho \"$@\" > %s\n: > %s\n" % (asked, changes)), 0o755)
         # root's logrotate takes no file that another one may write
-        file = front.put(folder, "logrotate", re.sub(r"/var/log/buckramjade/changes\.log", log, text_of("logrotate")))
+        file = front.put(folder, "logrotate", re.sub(r"/var/log/[\w-]+|/usr/bin(?=/handled reopen)", folder, text_of("logrotate")))
         os.chmod(file, 0o644)
         done, words = said([program, "-d", "-s", folder + "/state", file])
         # a line that it can't read is no failure to it
         lines = [line for line in words.splitlines() if line.startswith("error:")]
         print("".join(line + "\n" for line in lines), end="")
         yield "logrotate -d", done and not lines
-        with open(log, "a", encoding="utf-8") as lines:
+        with open(changes, "a", encoding="utf-8") as one, open(visits, "a", encoding="utf-8") as other:
             for word in ("before\n", "after\n"):
-                lines.write(word)
-                lines.flush()
+                for lines in (one, other):
+                    lines.write(word)
+                    lines.flush()
                 if word == "before\n":
                     yield "logrotate -f", said([program, "-f", "-s", folder + "/state", file])[0]
-        yield "a program that appends goes on at the front", octets_of(log) == b"after\n"
-        yield "what it wrote before is kept", said(["gzip", "-dc", log + ".1.gz"])[1] == "before\n"
+        yield "the server is asked to open its log anew", os.path.exists(asked) and octets_of(asked) == b"reopen --control /run/buckramjade/control\n"
+        yield "until then it goes on in the renamed file", octets_of(changes + ".1") == b"before\nafter\n" and octets_of(changes) == b""
+        yield "the proxy goes on at the front", octets_of(visits) == b"after\n"
+        yield "what it wrote before is kept", said(["gzip", "-dc", visits + ".1.gz"])[1] == "before\n"
 
 
 def in_front():

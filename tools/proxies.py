@@ -18,17 +18,20 @@ import time
 # nothing is left beside the tools
 sys.dont_write_bytecode = True
 import answers
+import openapi
 import repository
 import servers
 import wire
-from proxy_cases import ARCHIVE_WAY, A_ONE, A_PAGE, A_THREE, A_TWO, A_WAY, CHAIN, DAY, JSONS, KEPT, MANY, NEVER, NO_URL, OPTIONS, PAGES, PRETTY, SCRIPT_PAGE, TENANTS
+from proxy_cases import ARCHIVE_WAY, A_ONE, A_PAGE, A_THREE, A_TWO, A_WAY, CHAIN, DAY, JSONS, KEPT, MANY, NEVER, NO_URL, OPTIONS, PAGES, PRETTY, SCRIPT_PAGE, TENANTS, WILD_PAGE
 from proxy_pages import (
-    ABSENT, CONTACT, CROWDED, ELSEWHERE, FOLLOW, FORM, FRONT, HIDDEN, ICON, LATER, LOOK, READING, ROBOTS, SITE, UNANSWERED, answered_nowhere, empty, json_refusal, json_text, json_values,
-    nameless, refusal, text, value, values, way, written_on)
+    ABSENT, CONTACT, CROWDED, ELSEWHERE, FOLLOW, FORM, FRONT, HIDDEN, ICON, LATER, LOOK, READING, ROBOTS, SITE, SITE_TEXT, UNANSWERED, answered_nowhere, empty, json_refusal, json_text, json_values,
+    led_to, meant, nameless, refusal, text, value, values, way, written_on)
 
 PROGRAM = os.environ.get("PROXY", repository.program("hdl_web"))
 WORDS = os.environ.get("HDL", repository.program("hdl"))
 IDLE = 1000
+# Each request and the status of its answer.
+ANSWERED = set()
 # The most seconds in which something that takes ten should have come, on a machine that others use too.
 PATIENCE = 20
 SECRET = b"never-shown"
@@ -107,10 +110,12 @@ def more_files():
 
 
 @contextlib.contextmanager
-def proxy(behind, *options, site=("--site", SITE, "--contact", CONTACT), prefixes=None, host="127.0.0.1"):
+def proxy(behind, *options, site=("--site", SITE, "--contact", CONTACT), prefixes=None, host="127.0.0.1", browsers=DAY):
     """A proxy before the servers at these ports, each with its prefix where there are some: its own port."""
     (port,) = servers.free_ports(1)
     words = [PROGRAM, "--listen", "%s:%d" % (host, port), *site, *options]
+    if browsers is not None:
+        words += ["--browser-cache", str(browsers)]
     for place, server in enumerate(behind):
         words += ["--server", "127.0.0.1:%d%s" % (server, "=" + prefixes[place] if prefixes else "")]
     with servers.running(words, 1):
@@ -139,7 +144,10 @@ def request(line, close=True, more=""):
 
 def answered(port, line, more="", host="127.0.0.1"):
     """The whole answer to a request, without its moment."""
-    return answers.undated(said(port, request(line, more=more), host))
+    answer = answers.undated(said(port, request(line, more=more), host))
+    if re.match(rb"HTTP/1.1 \d{3} ", answer):
+        ANSWERED.add((*line.split(" ", 1), int(answer[9:12])))
+    return answer
 
 
 def wanted(status, kept, location, body, **how):
@@ -267,6 +275,81 @@ def idle(port):
     yield "others are answered behind them", answered(port, "GET /20/archive") == wanted(*ARCHIVE_WAY)
 
 
+# For how long browsers keep redirects whose values may be kept for a day, for a minute, and not without asking again: by the word of the command line, if there is one.
+BROWSERS = (
+    (None, (("GET /20/archive", 300), ("GET /20/host", 60), ("GET /20/archive?auth", 0), ("GET /20/archive", 300))),
+    (60, (("GET /20/archive", 60), ("GET /10/a", 60))),
+    (0, (("GET /20/archive", None), ("GET /10/a", None))),
+)
+
+
+def browsers(behind):
+    """Redirects are kept by browsers for the shorter time, also where their answers are kept here; pages and JSON as long as their values."""
+    whole = dict((line, answer) for line, *answer in PAGES)
+    for most, cases in BROWSERS:
+        for options in ((), ("--cache", "600")):
+            with proxy(behind, *options, browsers=most) as port:
+                for line, seconds in cases * 2:
+                    _, _, to, body = whole[line.replace("?auth", "")]
+                    kept = NEVER if seconds is None else KEPT % seconds
+                    yield "%s, --browser-cache %s %s" % (line, most, options), answered(port, line) == wanted(302, kept, to, body)
+                yield "a page, --browser-cache %s" % most, answered(port, "GET /10/script") == answers.page(200, KEPT % 86400, *SCRIPT_PAGE)
+                yield "JSON, --browser-cache %s" % most, answered(port, "GET /api/handles/10/a") == answers.json(200, KEPT % 3600, json_values("10/a", A_ONE, A_TWO, A_THREE))
+
+
+ADDRESS = "https://handles.example.org/"
+# What is pasted at a site of this address, and the path to which it leads.
+OWN = (
+    ("https%3A%2F%2Fhandles.example.org%2F10%2Fa%2520b", "10/a b", "/10/a%20b"),
+    ("+HTTPS%3A%2F%2FHandles.Example.org%2Fhdl%3A10%2Fa", "hdl:10/a", "/hdl%3A10/a"),
+    ("https%3A%2F%2Fhdl.handle.net%2F10%2Fa", "10/a", "/10/a"),
+)
+ELSEWHERE_SENT, ELSEWHERE_NAME = "https%3A%2F%2Fhandles.example.org.evil.example%2F10%2Fa", "https://handles.example.org.evil.example/10/a"
+
+
+def at_own_address(behind):
+    """Pages of handles say where they are cited, and what is pasted is understood."""
+    with proxy(behind, "--address", ADDRESS) as port:
+        for sent, name, to in OWN:
+            yield "%s is pasted" % sent, answered(port, "GET /?handle=" + sent) == wanted(302, NEVER, to, way(name, to))
+        path = "/https%3A//handles.example.org.evil.example/10/a"
+        yield "another address is a name as it is", answered(port, "GET /?handle=" + ELSEWHERE_SENT) == wanted(302, NEVER, path, way(ELSEWHERE_NAME, path))
+        for line, status, kept, page, handle in (("GET /10/a?noredirect", 200, KEPT % 3600, A_PAGE, "10/a"), ("GET /20/wild?noredirect", 200, KEPT % 86400, WILD_PAGE, "20/wild"),
+                                                 ("GET /10/shown", 200, KEPT % 3600, led_to("10/shown", SCRIPT_PAGE), "10/script")):
+            yield line + " at its address", answered(port, line) == answers.page(status, kept, *page, cited=(ADDRESS + handle, SITE_TEXT))
+        for line, *answer in (("GET /10/none", 404, NEVER, None, refusal("10/none", ABSENT, LOOK)), ("GET /20/archive", *ARCHIVE_WAY)):
+            yield line + " has no address", answered(port, line) == wanted(*answer)
+    for word in ("handles.example.org", "https://handles.example.org", "ftp://handles.example.org/", "https://h.example/ /"):
+        done = subprocess.run([PROGRAM, "--server", "127.0.0.1:1", "--address", word], capture_output=True, text=True, check=False, timeout=60 * servers.SLOWER)
+        yield "--address " + word, (done.returncode, done.stdout) == (2, "") and done.stderr.startswith("error: --address %s: write http" % word)
+
+
+def faulty_addresses():
+    """A server without a port, and an address at which no one can listen here, are said before anything is served."""
+    port = "write HOST:PORT, such as 127.0.0.1:2641 or [::1]:2641\n"
+    for words, status, said in (
+        (["--server", "127.0.0.1"], 2, "error: --server 127.0.0.1: " + port),
+        (["--server", "::1:2641"], 2, "error: --server ::1:2641: " + port),
+        (["--server", ":2641=10"], 2, "error: --server :2641=10: " + port),
+        (["--server", "h:1", "--standby", "h:handle=10"], 2, "error: --standby h:handle=10: " + port),
+        (["--server", "h:1", "--listen", "203.0.113.1:8080"], 1, "hdl: --listen 203.0.113.1:8080: Cannot assign requested address (os error 99): name an address of this machine, see `ip addr`\n"),
+    ):
+        done = subprocess.run([PROGRAM, *words], capture_output=True, text=True, check=False, timeout=60 * servers.SLOWER)
+        yield " ".join(words), (done.returncode, done.stdout, done.stderr) == (status, "", said)
+
+
+def absent_questions():
+    """What is asked of a handle that isn't there: of a page two others that may be meant, of JSON none."""
+    for path, names in (("/10/Ab.", ("10/Ab.", "10/Ab", "10/ab")), ("/10/ab", ("10/ab", "10/AB")), ("/10/1", ("10/1",)), ("/10/!", ("10/!",)), ("/api/handles/10/Ab.", ("10/Ab.",))):
+        came = []
+        with socket.create_server(("127.0.0.1", 0)) as listener:
+            threading.Thread(target=serve_badly, args=(listener, short(100), came), daemon=True).start()
+            with proxy([listener.getsockname()[1]], "--timeout", "1") as port:
+                status = answered(port, "GET " + path).split(b" ")[1]
+        asked = [wire.resolution(name.encode(), flags=wire.PUBLIC_ONLY) for name in names]
+        yield path + " isn't there", status == b"404" and [octets[20:] for octets in came] == asked
+
+
 def serve_badly(listener, reply, came):
     """Answers the first question of each connection so, and closes it; keeps what came."""
     with contextlib.suppress(OSError):
@@ -311,14 +394,16 @@ def without_servers():
         for line, status, kept, to, body in PAGES:
             if ELSEWHERE in body[1] or HIDDEN in body[1]:
                 status, body = 502, answered_nowhere(body)
+            if meant("10/secret") in body[1]:
+                body = refusal("10/secret.", ABSENT, LOOK)
             yield line + " without servers", answered(port, line) == wanted(status, kept, to, body)
 
 
 # Whom readers ask, and how that stands at the foot of a page.
 CONTACTS = (
     (("--contact", 'https://example.org/?a=1&b="<x>"'),
-     '<footer>Questions? <a href="https://example.org/?a=1&amp;b=%22%3Cx%3E%22">https://example.org/?a=1&amp;b=&quot;&lt;x&gt;&quot;</a></footer>\n'),
-    (("--contact", "Tom <t@example.org>"), '<footer>Questions? <a href="mailto:Tom%20%3Ct@example.org%3E">Tom &lt;t@example.org&gt;</a></footer>\n'),
+     '<footer>Questions? <a href="https://example.org/?a=1&amp;b=%22%3Cx%3E%22"><bdi>https://example.org/?a=1&amp;b=&quot;&lt;x&gt;&quot;</bdi></a></footer>\n'),
+    (("--contact", "Tom <t@example.org>"), '<footer>Questions? <a href="mailto:Tom%20%3Ct@example.org%3E"><bdi>Tom &lt;t@example.org&gt;</bdi></a></footer>\n'),
     ((), ""),
 )
 # What is counted before anything was asked, of a server.
@@ -333,6 +418,9 @@ hdl_proxy_answers_kept_total 0
 # HELP hdl_proxy_log_lines_lost_total Lines of the log that were lost.
 # TYPE hdl_proxy_log_lines_lost_total counter
 hdl_proxy_log_lines_lost_total 0
+# HELP hdl_proxy_standby_answers_total Answers of standbys.
+# TYPE hdl_proxy_standby_answers_total counter
+hdl_proxy_standby_answers_total 0
 # HELP hdl_proxy_server_asked_total Questions asked, by server.
 # TYPE hdl_proxy_server_asked_total counter
 hdl_proxy_server_asked_total{server="127.0.0.1:%d"} 0
@@ -360,7 +448,7 @@ def of_itself(behind):
     """What the proxy tells of itself, and an answer, by IPv6."""
     with proxy(behind[:1], host="[::1]") as port:
         method = wanted(405, NEVER, None, refusal("/health", READING, FOLLOW, "Not done"))
-        for line, answer in (("GET /metrics", answers.counts(METRICS % (VERSION, *behind[:1] * 4))), ("GET /health", answers.words(200, "ok\n")),
+        for line, answer in (("GET /metrics", answers.counts(METRICS % (VERSION, *behind[:1] * 4))), ("HEAD /metrics", answers.counts(METRICS % (VERSION, *behind[:1] * 4), has_body=False)), ("GET /health", answers.words(200, "ok\n")),
                              ("HEAD /health", answers.words(200, "ok\n", has_body=False)), ("POST /health", method), ("GET /10/a", wanted(*A_WAY))):
             yield line + " by IPv6", answered(port, line, host="::1") == answer
 
@@ -383,12 +471,16 @@ def main():
         for part in (pages, files, again, spread, too_long, idle):
             cases += part(port)
         cases += otherwise(behind)
+        cases += browsers(behind)
+        cases += at_own_address(behind)
         cases += of_itself(behind)
-    for part in (without_servers, replies, contacts):
+    for part in (without_servers, replies, contacts, faulty_addresses, absent_questions):
         cases += part()
     with proxy(servers.free_ports(2)) as port:
         cases += alone(port)
+    cases += (("docs/openapi.json describes %d to %s %s" % (status, method, path), status in openapi.UNREAD or openapi.described(method, path, status)) for method, path, status in sorted(ANSWERED))
     return servers.tally(cases, "another answer than the one that should be")
 
 
-sys.exit(main())
+if __name__ == "__main__":
+    sys.exit(main())

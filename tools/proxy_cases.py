@@ -5,7 +5,7 @@ import html
 
 import answers
 from proxy_pages import (
-    ABSENT, BEYOND, CALLBACK, CIRCLE, ELSEWHERE, FOLLOW, FORM, HIDDEN, INDEX, LOOK, OTHERS, READING, SLASH, grouped, hop, json_refusal, json_text, json_value, json_values, led_to, link,
+    ABSENT, BEYOND, CALLBACK, CIRCLE, ELSEWHERE, FOLLOW, FORM, HIDDEN, INDEX, LOOK, OTHERS, READING, SLASH, grouped, hop, json_refusal, json_text, json_value, json_values, led_to, link, meant,
     nowhere, octets, refusal, text, value, values, way)
 
 TENANTS = """publisher acme 8 %d
@@ -16,6 +16,7 @@ value 10/a 3 URL 86400 1110 UTF8 https://example.org/three
 value 10/a 1 URL 86400 1110 UTF8 https://example.org/one?q=1&r="\u00fc"
 value 10/a 2 TEXT 3600 1110 UTF8 <b>Tom & "Jerry"</b>
 value 10/a 4 NOTE 86400 1100 UTF8 never-shown
+value 10/secret 1 NOTE 86400 1100 UTF8 never-shown
 value 10/script 1 URL 86400 1110 UTF8 javascript:alert(1)
 value 10/script 2 URL 86400 1110 UTF8 https://example.org/
 value 10/admin 100 HS_ADMIN 86400 1110 ADMIN 300:111111111111:0.NA/10
@@ -70,6 +71,7 @@ ONE = "https://example.org/one?q=1&amp;r=%22%C3%BC%22"
 A_PAGE = values("10/a", value("URL", 1, link(ONE, "https://example.org/one?q=1&amp;r=&quot;\u00fc&quot;")),
                 value("URL", 3, link("https://example.org/three", "https://example.org/three")),
                 value("TEXT", 2, text("&lt;b&gt;Tom &amp; &quot;Jerry&quot;&lt;/b&gt;")))
+WILD_PAGE = values("20/wild", value("HS_ALIAS", 1, octets(hop(WILD))))
 HERE = "Here is what is known about"
 NO_URL = '<p class="note">This handle has no web address to go to. %s it.</p>\n' % HERE
 URL_UNFOLLOWED = '<p class="note">The web address of this handle, or what this link adds to it, isn\'t one that is followed here. %s the handle.</p>\n' % HERE
@@ -148,7 +150,13 @@ PAGES = (
     ("GET /%3Cb%3E%22", 400, NEVER, None, refusal("&lt;b&gt;&quot;", "This is no handle: the name has no slash.", FORM, "No handle")),
     ("POST /%3Cb%3E%22", 405, NEVER, None, refusal("/%3Cb%3E%22", READING, FOLLOW, "Not done")),
     ("GET /10/%2561", 404, NEVER, None, refusal("10/%61", ABSENT, LOOK)),
-    ("GET /10/a/", 404, NEVER, None, refusal("10/a/", ABSENT, SLASH)),
+    ("GET /10/a/", 404, NEVER, None, refusal("10/a/", ABSENT, SLASH, other=meant("10/a"))),
+    ("GET /10/a%22%29.", 404, NEVER, None, refusal("10/a&quot;).", ABSENT, LOOK, other=meant("10/a"))),
+    ("GET /10/A", 404, NEVER, None, refusal("10/A", ABSENT, LOOK, other=meant("10/a"))),
+    ("GET /10/A,?noredirect", 404, NEVER, None, refusal("10/A,", ABSENT, LOOK, other=meant("10/a"))),
+    ("GET /10/kept.?type=NONE", 404, NEVER, None, refusal("10/kept.", ABSENT, LOOK, other=meant("10/kept"))),
+    ("GET /10/secret.", 404, NEVER, None, refusal("10/secret.", ABSENT, LOOK, other=meant("10/secret"))),
+    ("GET /10/...", 404, NEVER, None, refusal("10/...", ABSENT, LOOK)),
     ("GET /10/%3Cscript%3E", 404, NEVER, None, refusal("10/&lt;script&gt;", ABSENT, LOOK)),
     ("GET /30/a", 404, NEVER, None, refusal("30/a", ELSEWHERE, LOOK)),
     ("GET /%61pi/handles/10/a", 404, NEVER, None, refusal("api/handles/10/a", ELSEWHERE, LOOK)),
@@ -160,7 +168,7 @@ PAGES = (
     ("GET /10/alias?noredirect", 200, KEPT % 60, None,
      values("10/alias", value("URL", 1, link("https://example.org/own", "https://example.org/own")), value("HS_ALIAS", 5, octets(hop("20/archive"))),
             value("HS_ALIAS", 7, octets(hop("10/none"))))),
-    ("GET /20/wild?noredirect", 200, KEPT % 86400, None, values("20/wild", value("HS_ALIAS", 1, octets(hop(WILD))))),
+    ("GET /20/wild?noredirect", 200, KEPT % 86400, None, WILD_PAGE),
     ("GET /10/places", 302, KEPT % 3600, "https://one.example.org/a?b=1&c", way("10/places", "https://one.example.org/a?b=1&amp;c")),
     ("GET /10/places?urlappend=d", 302, KEPT % 3600, "https://one.example.org/a?b=1&cd", way("10/places", "https://one.example.org/a?b=1&amp;cd")),
     ("GET /10/places?locatt=id:2", 302, KEPT % 3600, "https://two.example.org/", way("10/places", "https://two.example.org/")),
@@ -221,6 +229,7 @@ JSONS = (
         json_value(101, "HS_PUBKEY", '{"format":"base64","value":"a2V5"}'))),
     ("GET /10/circle", 200, KEPT % 86400, json_values("10/circle", json_value(1, "HS_ALIAS", json_text("20/circle")))),
     ("GET /10/none", 404, NEVER, json_refusal("10/none", "This handle isn't there.", 100)),
+    ("GET /10/a.", 404, NEVER, json_refusal("10/a.", "This handle isn't there.", 100)),
     ("GET /10/a%20", 404, NEVER, json_refusal("10/a ", "This handle isn't there.", 100)),
     ("GET /hdl:10/a", 404, NEVER, json_refusal("hdl:10/a", ELSEWHERE, 100)),
     ("GET /30/a", 404, NEVER, json_refusal("30/a", ELSEWHERE, 100)),

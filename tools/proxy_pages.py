@@ -5,8 +5,8 @@ import urllib.parse
 
 SITE, CONTACT = "Tom & Jerry's <handles>", "help@example.org"
 SITE_TEXT = "Tom &amp; Jerry&#39;s &lt;handles&gt;"
-HEADER = '<header><a href="/">%s</a></header>\n<main>\n' % SITE_TEXT
-FOOTER = '<footer>Questions? <a href="mailto:help@example.org">help@example.org</a></footer>\n</body>\n</html>\n'
+HEADER = '<header><a href="/"><bdi>%s</bdi></a></header>\n<main>\n' % SITE_TEXT
+FOOTER = '<footer>Questions? <a href="mailto:help@example.org"><bdi>help@example.org</bdi></a></footer>\n</body>\n</html>\n'
 ANOTHER = '<p><a href="/">Find another handle</a></p>\n'
 END = "</main>\n" + FOOTER
 COLUMNS = ('<table aria-label="What is known about this handle">\n<thead><tr><th scope="col">Type, index</th><th scope="col">Value</th></tr></thead>\n'
@@ -47,8 +47,13 @@ def name(asked):
     return '<p class="name" dir="auto">%s</p>\n' % asked
 
 
-def refusal(asked, why, advice, word="Not found"):
-    return "%s: %s - %s" % (word, asked, SITE_TEXT), "%s<h1>%s</h1>\n%s<p>%s</p>\n%s%s" % (HEADER, why, name(asked), advice, ANOTHER, END)
+def meant(handle):
+    """That another handle may be meant, as a link to where its address leads."""
+    return '<p class="note">Did you mean <a href="/%s"><bdi>%s</bdi></a>?</p>\n' % (urllib.parse.quote(handle, safe="/"), html.escape(handle))
+
+
+def refusal(asked, why, advice, word="Not found", other=""):
+    return "%s: %s - %s" % (word, asked, SITE_TEXT), "%s<h1>%s</h1>\n%s%s<p>%s</p>\n%s%s" % (HEADER, why, name(asked), other, advice, ANOTHER, END)
 
 
 def answered_nowhere(page):

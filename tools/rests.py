@@ -19,6 +19,7 @@ import urllib.parse
 
 # nothing is left beside the tools
 sys.dont_write_bytecode = True
+import openapi
 import repository
 import servers
 import wire
@@ -62,6 +63,8 @@ def basic(user=ADMIN, secret=SECRET):
 
 
 KEY = basic()
+# Each request and the status of its answer.
+ANSWERED = set()
 
 
 def ask(port, method, path, body=None, key=KEY):
@@ -76,6 +79,7 @@ def ask(port, method, path, body=None, key=KEY):
         whole = answer.read()
     assert SECRET.encode() not in whole and urllib.parse.quote(SECRET).encode() not in whole
     told = dict((name.lower(), value) for name, value in answer.getheaders())
+    ANSWERED.add((method, path, answer.status))
     return answer.status, told, json.loads(whole) if whole[:1] == b"{" else whole.decode()
 
 
@@ -468,7 +472,9 @@ def main():
     drawn_again(cases)
     unreached(cases)
     lists(cases)
+    cases += (("docs/openapi.json describes %d to %s %s" % (status, method, path), openapi.described(method, path, status)) for method, path, status in sorted(ANSWERED))
     return servers.tally(cases, "another answer than the one that should be")
 
 
-sys.exit(main())
+if __name__ == "__main__":
+    sys.exit(main())

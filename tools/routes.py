@@ -94,7 +94,7 @@ def proxy(*named, options=()):
     """A proxy before these servers, each with its prefixes: its own port, another one where somebody took that meanwhile."""
     for _ in range(servers.TRIES):
         (port,) = servers.free_ports(1)
-        words = [PROGRAM, "--listen", "127.0.0.1:%d" % port, "--timeout", str(TIMEOUT), *options]
+        words = [PROGRAM, "--listen", "127.0.0.1:%d" % port, "--timeout", str(TIMEOUT), "--browser-cache", "86400", *options]
         for server, prefixes in named:
             words += ["--server", "127.0.0.1:%d%s" % (server.port, "=" + prefixes if prefixes else "")]
         process = servers.start(words, b"", 1)
@@ -277,6 +277,29 @@ def forks():
         yield "who isn't reached may have it", change(port, "40/b") == (502, {"handle": "40/b", "message": NOWHERE, "responseCode": 2}) and second.asked == [b"40/a"]
 
 
+def standbys():
+    """A standby is asked if no other server answers, gets no change, and is counted and told."""
+    server, standby = Server(), Server()
+    (port,) = servers.free_ports(1)
+    words = [PROGRAM, "--listen", "127.0.0.1:%d" % port, "--timeout", str(TIMEOUT), "--writes"]
+    for option, one in (("--standby", standby), ("--server", server)):
+        words += [option, "127.0.0.1:%d=10" % one.port]
+    process = subprocess.Popen(words, stdin=subprocess.DEVNULL, stdout=subprocess.PIPE, stderr=subprocess.PIPE, text=True)
+    process.stdout.readline()
+    yield "a server is asked before its standby", ask(port, "10/a")[0] == 302 and (server.asked, standby.asked) == ([b"10/a"], [])
+    server.answer = lambda _: None
+    yield "the standby if it doesn't answer", [ask(port, "10/b")[0], ask(port, "10/c")[0]] == [302, 302] and standby.asked == [b"10/b", b"10/c"]
+    yield "no change goes to a standby", change(port, "10/d")[0] == 502 and standby.asked == [b"10/b", b"10/c"]
+    server.answer = url
+    time.sleep(LEFT_OUT + 0.5)
+    yield "the server again", ask(port, "10/e")[0] == 302 and server.asked[-1] == b"10/e" and standby.asked == [b"10/b", b"10/c"]
+    yield "answers of standbys are counted", "\nhdl_proxy_standby_answers_total 2\n" in body_of(port, "/metrics")[1]
+    time.sleep(0.2)
+    process.terminate()
+    yield "and told", process.communicate()[1].splitlines() == ["hdl: 127.0.0.1:%d: this standby answers, since no other server did" % standby.port,
+                                                               "hdl: 127.0.0.1:%d: this server answers again" % server.port]
+
+
 def forgotten():
     """Behind a change nothing older is given: neither what is kept, nor what was asked for before it."""
     came, go = threading.Event(), threading.Event()
@@ -295,7 +318,7 @@ def forgotten():
         answered[b"10/a"] = lambda _: DONE
         yield "one is changed", change(port, "10/a")[0] == 200
         answered[b"10/a"] = short(ABSENT)
-        yield "it is asked for again", [ask(port, "10/a")[0], ask(port, "10/a?noredirect")[0], ask(port, "api/handles/10/a")[0], ask(port, "10/b")[0]] == [404, 404, 404, 302] and len(server.asked) == 4
+        yield "it is asked for again", [ask(port, "10/a")[0], ask(port, "10/a?noredirect")[0], ask(port, "api/handles/10/a")[0], ask(port, "10/b")[0]] == [404, 404, 404, 302] and server.asked[3:] == [b"10/a", b"10/A"]
         reader = threading.Thread(target=ask, args=(port, "10/slow"))
         reader.start()
         came.wait(10)
@@ -315,8 +338,8 @@ def anew():
         whole = whole_of(port, "/api/handles/10/a?auth")
         yield "with it the server is asked", status_of(whole) == 200 and b"cache-control: max-age=0\r\n" in whole and len(server.asked) == 2
         server.answer = short(ABSENT)
-        yield "each time", [ask(port, "10/a?auth=true")[0], ask(port, "api/handles/10/a?auth=false")[0]] == [404, 404] and len(server.asked) == 4
-        yield "then that is kept", ask(port, "10/a")[0] == 404 and len(server.asked) == 4
+        yield "each time", [ask(port, "10/a?auth=true")[0], ask(port, "api/handles/10/a?auth=false")[0]] == [404, 404] and server.asked[2:] == [b"10/a", b"10/A", b"10/a"]
+        yield "then that is kept", ask(port, "10/a")[0] == 404 and len(server.asked) == 5
 
 
 def body_of(port, path):
@@ -336,9 +359,9 @@ def kept():
         statuses = [ask(port, handle)[0] for handle in ("10/a", "10/a", "10/a?noredirect", "api/handles/10/a", "10/A", "10/short", "10/short")]
         yield "a handle is asked for once", statuses == [302, 302, 200, 200, 302, 302, 302] and server.asked == [b"10/a", b"10/A", b"10/short"]
         server.answer = short(ABSENT)
-        yield "not found is kept", [ask(port, "10/none")[0] for _ in range(3)] == [404] * 3 and len(server.asked) == 4
+        yield "not found is kept", [ask(port, "10/none")[0] for _ in range(3)] == [404] * 3 and server.asked[3:] == [b"10/none", b"10/NONE"]
         server.answer = short(BUSY)
-        yield "no other refusal is", [ask(port, "10/busy")[0] for _ in range(3)] == [503] * 3 and len(server.asked) == 7
+        yield "no other refusal is", [ask(port, "10/busy")[0] for _ in range(3)] == [503] * 3 and len(server.asked) == 8
         time.sleep(1.2)
         yield "for its TTL", ask(port, "10/short")[0] == 503 and ask(port, "10/a")[0] == 302
         time.sleep(1)
@@ -419,7 +442,7 @@ def unread():
             ask(port, "10/a")
             text = lines_of(path, 4)
         found = [LINE.fullmatch(line) for line in text.splitlines()]
-        yield "a line of what can't be read", all(found) and [one.group(2, 3, 4, 5) for one in found[:3]] == [("-", "-", "400", "0"), ("-", "-", "431", "0"), ("-", "-", "431", "0")]
+        yield "a line of what can't be read", all(found) and [one.group(2, 3, 4, 5) for one in found[:3]] == [("-", "-", "400", "0"), ("-", "-", "414", "0"), ("-", "-", "431", "0")]
         yield "and of nothing else", len(found) == 4 and found[-1].group(2, 3, 4) == ("GET", "/10/a", "302")
 
 
@@ -494,7 +517,7 @@ def listeners():
     first, second = servers.free_ports(2)
     words = [PROGRAM, "--listen", "127.0.0.1:%d" % first, "--listen", "127.0.0.1:%d" % second, "--threads", "3", "--cache", "60", "--server", "127.0.0.1:%d" % server.port]
     with servers.running(words, 2):
-        wanted = redirect("10/a", "https://example.org/10/a", 86400)
+        wanted = redirect("10/a", "https://example.org/10/a", 300)
         yield "a handle is asked for once", [whole_of(port, "/10/a") for port in (first, second) * 3] == [wanted] * 6 and server.asked == [b"10/a"]
         found = [statuses(at_once(port, ["10/%d" % (one % 8) for one in range(40)])[0]) for port in (first, second)]
         yield "many at once", found == [[302] * 40] * 2 and set(server.asked[1:]) == {b"10/%d" % one for one in range(8)}
@@ -512,7 +535,7 @@ def faults():
 
 
 def main():
-    parts = (prefixes, referrals, silence, slowness, changes, forks, forgotten, anew, kept, ways, aliases, told, unread, full, listeners, faults)
+    parts = (prefixes, referrals, silence, slowness, changes, forks, standbys, forgotten, anew, kept, ways, aliases, told, unread, full, listeners, faults)
     with concurrent.futures.ThreadPoolExecutor(len(parts)) as pool:
         cases = [case for found in pool.map(lambda part: list(part()), parts) for case in found]
     # its hundreds of threads would hold the other parts up

@@ -1,7 +1,9 @@
 """servers.py: starts `handled serve` and other programs for those of tools/ and bench/, at ports that are free, and ends them; and a client of such a server."""
 
 import contextlib
+import itertools
 import os
+import random
 import shutil
 import socket
 import struct
@@ -40,13 +42,19 @@ def can_be(user):
         return False
 
 
+# Ports that the system gives to no client, from a place of this process's own: programs that run side by side rarely try the same.
+BELOW_CLIENTS = range(10_000, 32_000)
+places = itertools.count(random.randrange(len(BELOW_CLIENTS)))
+
+
 def free_ports(count):
     """Ports that are free, as far as is known."""
-    listeners = [socket.create_server(("127.0.0.1", 0)) for _ in range(count)]
-    ports = [listener.getsockname()[1] for listener in listeners]
-    for listener in listeners:
-        listener.close()
-    return ports
+    found = []
+    while len(found) < count:
+        port = BELOW_CLIENTS[next(places) % len(BELOW_CLIENTS)]
+        with contextlib.suppress(OSError), socket.create_server(("127.0.0.1", port)):
+            found.append(port)
+    return found
 
 
 def loopback():

@@ -1,6 +1,6 @@
 """starves.py: tries a server that is short of something, over the program crates/handled/out/handled: readers of its log, room on its disk, memory, descriptors, its own file, or quick clients of its status page.
 
-Nobody's answer waits for a log that nobody reads, and what is lost is counted. A disk that is full, memory that is short and a file that somebody else changed are told: on standard error, by
+Nobody's answer waits for a log that nobody reads, and what is lost is counted and told, as it begins and as it ends. A disk that is full, memory that is short and a file that somebody else changed are told: on standard error, by
 /health and by /metrics; deletes and reads go on, and nothing is answered as done that is lost. Its last line is 'N passed, M failed', a case counting one."""
 
 import contextlib
@@ -132,6 +132,7 @@ def unread_log(folder):
         yield "a log that nobody reads: all is answered", {server.acme.change(b"%d" % number) for number in range(MANY)} == {wire.SUCCESS}
         yield "and of the other publisher", {server.bolt.change(b"%d" % number) for number in range(20)} == {wire.SUCCESS}
         yield "what is lost is counted", soon(lambda: server.count("handled_log_lines_lost_total"))
+        yield "it is told while nobody reads", soon(lambda: server.said("log: lines are lost: "))
         reader = os.open(log, os.O_RDONLY | os.O_NONBLOCK)
         got = b""
 
@@ -139,12 +140,12 @@ def unread_log(folder):
             nonlocal got
             with contextlib.suppress(BlockingIOError):
                 got += os.read(reader, 1 << 20)
-            return server.said("log: ")
+            return server.said("log: ")[1:]
 
-        yield "it is told once somebody reads", soon(read)
+        yield "how many is told once somebody reads", soon(read)
         lost = server.count("handled_log_lines_lost_total")
         read()
-        yield "each line is there or counted", got.count(b"\n") + lost == MANY + 20 and server.said("log: ")[0].startswith("log: %d lines were lost" % lost)
+        yield "each line is there or counted", got.count(b"\n") + lost == MANY + 20 and [line.partition(":")[2][:20] for line in server.said("log: ")] == [" lines are lost: the", (" %d lines were lost: the log's reader" % lost)[:20]]
         yield "none of the other publisher's is lost", got.count(b"Z bolt ") == 20
         yield "each line is whole", all(re.match(rb"\S+Z (acme|bolt) [0-9] 127.0.0.1:\d+ modify (10|20)/open - 1$", line) for line in got.splitlines())
         os.close(reader)

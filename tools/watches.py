@@ -5,6 +5,7 @@ nonce is in it. What the status page counts is compared with what was asked. `ha
 'N passed, M failed', a case counting one."""
 
 import contextlib
+import http.client
 import os
 import re
 import resource
@@ -210,6 +211,7 @@ def watched(folder):
     yield "no secret and no data in the log", not any(word in text for word in (KEY, KEY.hex().encode(), DATA, b"wrong", b"example"))
     yield "the log is its user's alone", os.stat(log).st_mode & 0o777 == 0o600 and os.stat(control).st_mode & 0o177 == 0
     yield from counted(status)
+    yield from measured(status, process, file)
     yield from ended(process, control, file, [stream, *others, crowded])
 
 
@@ -226,11 +228,52 @@ def counted(status):
     yield "the table isn't shut", "handled_table_shut 0" in lines
     seconds = [float(line.split()[1]) for line in lines if line.startswith('handled_last_change_timestamp_seconds{publisher="acme"}')]
     yield "when a change was accepted", len(seconds) == 1 and abs(time.time() - seconds[0]) < 60
-    yield "each line is one of the format", all(re.match(r'^(# (HELP|TYPE) handled_[a-z_]+ .+|handled_[a-z_]+(\{[a-z]+="[^"]*"(,[a-z]+="[^"]*")*\})? [0-9.]+)$', line) for line in lines)
+    yield "each line is one of the format", all(re.match(r'^(# (HELP|TYPE) (handled|process)_[a-z_]+ .+|(handled|process)_[a-z_]+(\{[a-z]+="[^"]*"(,[a-z]+="[^"]*")*\})? [0-9.]+)$', line) for line in lines)
     yield "no such page", page(status, "/")[0] == 404
     with socket.create_connection(("127.0.0.1", status), 10) as one:
         one.sendall(b"POST /metrics HTTP/1.1\r\nHost: a\r\n\r\n")
-        yield "another method", one.makefile("rb").read().startswith(b"HTTP/1.1 405 ")
+        answer = one.makefile("rb").read()
+        yield "another method", answer.startswith(b"HTTP/1.1 405 ") and b"\r\nAllow: GET, HEAD\r\n" in answer
+
+
+def headed(status, path):
+    """The status, the length that is told and the body of an answer to HEAD."""
+    connection = http.client.HTTPConnection("127.0.0.1", status, timeout=30)
+    with contextlib.closing(connection):
+        connection.request("HEAD", path)
+        answer = connection.getresponse()
+        return answer.status, int(answer.headers["Content-Length"]), answer.read()
+
+
+def measured(status, process, file):
+    """What the status page measures: times of replies and of changes, sizes of files, and what the process takes."""
+    def lines():
+        return dict(line.rsplit(" ", 1) for line in page(status, "/metrics")[2].splitlines() if not line.startswith("#"))
+
+    def buckets(name, label=""):
+        """The counts of a histogram's buckets, and all that it counted."""
+        found = lines()
+        return [int(count) for line, count in found.items() if line.startswith("%s_bucket{%sle=" % (name, label))], int(found["%s_count%s" % (name, "{%s}" % label[:-1] if label else "")])
+
+    for publisher in ("acme", "bolt"):
+        counts, count = buckets("handled_reply_seconds", 'publisher="%s",' % publisher)
+        yield "times of replies of %s" % publisher, len(counts) == 8 and counts == sorted(counts) and counts[-1] == count > 5
+    counts, count = buckets("handled_commit_seconds")
+    # those that were accepted: eight of acme, and three of bolt
+    yield "times of changes", len(counts) == 8 and counts == sorted(counts) and counts[-1] == count == 11
+    yield "their sum", 0 < float(lines()["handled_commit_seconds_sum"]) < 60
+    for name, end in (("handled_table_file_bytes", ""), ("handled_table_log_bytes", "-wal")):
+        yield name, soon(lambda name=name, end=end: lines().get(name) == str(os.path.getsize(file + end)))
+    yield "memory of the process", int(lines()["process_resident_memory_bytes"]) > 1 << 20
+    # Linux counts them since 6.2; a client of the page has one
+    if os.stat("/proc/self/fd").st_size:
+        yield "descriptors of the process", soon(lambda: abs(int(lines().get("process_open_fds", 0)) - len(os.listdir("/proc/%d/fd" % process.pid))) <= 2)
+    version = subprocess.run([servers.HANDLED, "--version"], capture_output=True, text=True, check=True).stdout.split(" ", 1)[1].strip()
+    yield "the version", lines().get('handled_build_info{version="%s"}' % version) == "1"
+    yield "the head of /health", headed(status, "/health") == (200, 3, b"")
+    code, length, body = headed(status, "/metrics")
+    yield "the head of /metrics", (code, body) == (200, b"") and length > 1000
+    yield "the head of no page", headed(status, "/none")[::2] == (404, b"")
 
 
 def ended(process, control, file, clients):
@@ -260,6 +303,64 @@ def ended(process, control, file, clients):
     done, _ = stop(control)
     yield "it ends too", done.returncode == 0 and process.wait(END) == 0
     process.stdout.close()
+
+
+def said_to(control, word="reopen"):
+    done = subprocess.run([servers.HANDLED, word, "--control", control], capture_output=True, timeout=60 * servers.SLOWER, check=False)
+    return done.returncode, done.stdout, done.stderr
+
+
+def rotated(folder):
+    """A log is renamed, and the server asked to open it anew: each line is in one of the two, and a file that can't be opened is told."""
+    log, control = os.path.join(folder, "rotated.log"), os.path.join(folder, "rotates")
+    process, (acme, _) = servers.serve(tenants, 2, options=("--log", log, "--control", control), stderr=subprocess.PIPE)
+    client, asked = Stream(acme), 0
+
+    def ask():
+        nonlocal asked
+        asked += client.ask(delete(b"10/gone")) == wire.ABSENT
+
+    ask()
+    os.rename(log, log + ".1")
+    ask()
+    yield "lines go on in the file that was renamed", len(logged(log + ".1", 2)) == 2 and not os.path.exists(log)
+    yield "the word is taken", said_to(control) == (0, b"", b"")
+    yield "the file is made anew, for its user alone", soon(lambda: os.path.exists(log)) and os.stat(log).st_mode & 0o777 == 0o600
+
+    def goes_on():
+        ask()
+        return os.path.getsize(log)
+
+    yield "lines go on there", soon(goes_on)
+    yield "and none is lost", soon(lambda: sum(len(logged(one, 0)) for one in (log, log + ".1")) == asked)
+    os.rename(log, log + ".2")
+    os.mkdir(log)
+    before = os.path.getsize(log + ".2")
+    yield "a folder is in its place", said_to(control) == (0, b"", b"")
+    said = next((line for line in process.stderr if line.startswith(b"log: ")), b"")
+    yield "it is told", said.startswith(b"log: the file can't be opened anew")
+    ask()
+    yield "lines go on as before", soon(lambda: os.path.getsize(log + ".2") > before)
+    servers.end(process)
+    process.stderr.close()
+    code, _, said = said_to(control)
+    yield "nobody is there to open it", code == 1 and said.startswith(b"reopen: no server at ")
+    control = os.path.join(folder, "logless")
+    process, _ = servers.serve(tenants, 2, options=("--control", control))
+    code, _, said = said_to(control)
+    yield "there is no file of a log", code == 1 and b"writes its log into no file" in said
+    yield "it goes on until its end", stop(control)[0].returncode == 0 and process.wait(END * servers.SLOWER) == 0
+    process.stdout.close()
+
+
+def taken(folder):
+    """A server that can't listen doesn't say that it begins."""
+    with socket.create_server(("127.0.0.1", 0)) as holder:
+        port = holder.getsockname()[1]
+        for name, ports, options in (("a port of a publisher", (port, *servers.free_ports(1)), ()), ("the port of the status page", servers.free_ports(2), ("--status", "127.0.0.1:%d" % port))):
+            for file in ((), ("--table", os.path.join(folder, "taken.db"))):
+                done = subprocess.run([servers.HANDLED, "serve", *options, *file], input=tenants(*ports), capture_output=True, timeout=60 * servers.SLOWER, check=False)
+                yield name + " is taken: nothing begins", done.returncode == 1 and b"cannot listen on 127.0.0.1:%d: " % port in done.stderr and b"begins" not in done.stderr and not done.stdout
 
 
 def busy_end(folder):
@@ -415,7 +516,7 @@ def behind_a_proxy(folder):
 
 def main():
     with tempfile.TemporaryDirectory() as folder:
-        return servers.tally(case for part in (watched, together, behind_a_proxy, busy_end, failing, full) for case in part(folder))
+        return servers.tally(case for part in (watched, rotated, taken, together, behind_a_proxy, busy_end, failing, full) for case in part(folder))
 
 
 sys.exit(main())

@@ -7,7 +7,7 @@ import struct
 
 # Operations, codes and flags, by the names of the page.
 RESOLVE, CREATE, DELETE, ADD, REMOVE, MODIFY, LIST, RESPONSE = 1, 100, 101, 102, 103, 104, 105, 200
-SUCCESS, PROTOCOL_ERROR, ABSENT, AUTHENTICATION_NEEDED = 1, 4, 100, 402
+SUCCESS, PROTOCOL_ERROR, OPERATION_DENIED, ABSENT, AUTHENTICATION_NEEDED = 1, 4, 5, 100, 402
 PUBLIC_ONLY = 0x01000000
 # What begins a digest, and the function that makes it.
 SHA1, SHA256 = (2, hashlib.sha1), (3, hashlib.sha256)

@@ -23,7 +23,7 @@ import repository
 ALL = 45_000
 MOST = {
     "README.md": 700,
-    "CHANGES.md": 800,
+    "CHANGES.md": 840,
     "packaging/README.md": 300,
     "docs/BELIEVED.md": 1_100,
     "docs/BENCHMARKS.md": 2_600,

@@ -1,6 +1,6 @@
 //! Checking a tenants text before it is served.
 
-use crate::ports::{say_shared, say_taken};
+use crate::ports::{say_taken, say_unservable};
 use hdl_check::{Report, check};
 use hdl_programs::{Fault, put_all, tenants_of};
 use std::net::IpAddr;
@@ -26,10 +26,10 @@ pub fn check_text(rt: &HostRuntime, text: &str) -> Result<u8, Fault> {
     }
 }
 
-/// Says on standard error which publishers of an accepted text have one port, and which ports can't be had now; answers the exit status.
+/// Says on standard error why no server can start with an accepted text, or which ports can't be had now; answers the exit status.
 pub fn check_ports(rt: &HostRuntime, text: &str, addresses: &[IpAddr]) -> Result<u8, Fault> {
     let tenants = tenants_of(rt.alloc(), text)?;
-    if say_shared(rt, &tenants) {
+    if say_unservable(rt, &tenants) {
         return Ok(FAULTY);
     }
     say_taken(rt, rt.alloc(), &tenants, addresses)?;

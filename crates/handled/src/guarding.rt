@@ -3,6 +3,7 @@
 use hdl_guardedrows::{Effect, Fate, Guard};
 use hdl_host::{FileChange, FileWatch, Health};
 use std::sync::Arc;
+use std::time::Instant;
 
 /// Forbids what takes more while memory is short, and everything while the table's file isn't as the server left it.
 #[derive(Drop)]
@@ -12,6 +13,8 @@ pub struct TableGuard {
     /// The table's file, where it has one, and what another program had made of it when it was looked at last.
     file: Option<FileWatch>,
     change: Option<FileChange>,
+    /// When the write that is under way was begun, where the clock said it.
+    begun: Option<Instant>,
     /// Whether less memory could be had than is kept aside, when that was seen last.
     is_short: bool,
 }
@@ -23,6 +26,7 @@ impl TableGuard {
             health,
             file,
             change: None,
+            begun: None,
             is_short: false,
         }
     }
@@ -36,6 +40,17 @@ impl TableGuard {
         self.change.is_none()
     }
 
+    /// Reports how long the write took that was under way, if it is in the file.
+    fn note_commit(&mut self, fate: Fate) {
+        let begun = self.begun.take();
+        if let (Some(begun), Ok(now)) = (begun, Instant::now(&self.rt)) {
+            if fate != Fate::Failed {
+                let time = now.saturating_duration_since(begun);
+                self.health.note_commit(time);
+            }
+        }
+    }
+
     /// Whether as much memory can be had as is kept aside. What is seen is reported.
     fn sees_room(&mut self) -> bool {
         let is_there = self.health.see_room(self.rt.alloc());
@@ -46,7 +61,11 @@ impl TableGuard {
 
 impl Guard for TableGuard {
     fn permits(&mut self, effect: Effect) -> bool {
-        self.sees_file() && (effect == Effect::Frees || self.sees_room())
+        let may = self.sees_file() && (effect == Effect::Frees || self.sees_room());
+        if may && self.file.is_some() {
+            self.begun = Instant::now(&self.rt).ok();
+        }
+        may
     }
 
     fn note(&mut self, fate: Fate) {
@@ -59,6 +78,7 @@ impl Guard for TableGuard {
         if let Some(file) = &mut self.file {
             file.note(&self.rt);
         }
+        self.note_commit(fate);
         if fate != Fate::Deferred {
             self.health.note_write(fate == Fate::Made);
         }

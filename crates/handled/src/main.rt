@@ -45,7 +45,7 @@ use std::random::RandomSource;
 use std::rt::Clock;
 use std::sync::Arc;
 use std::thread::Threads;
-use supervising::stop;
+use supervising::{reopen, stop};
 use texts::{read_text, text_of};
 
 /// Runs the script on standard input over a table in memory, and answers the exit status.
@@ -131,10 +131,11 @@ fn serve<
         limits,
         supervision,
         bounds,
+        takes_changes,
         row_cache,
         table,
     } = options;
-    let setting = setting_of(rt, addresses, limits, supervision)?;
+    let setting = setting_of(rt, addresses, limits, takes_changes, supervision)?;
     let row_cache = row_cache.unwrap_or(LIMIT_DEFAULT);
     match plan_in(rt, text, setting, bounds)? {
         Planned::Plan(plan) => serve_plan(machine, rt, plan, row_cache, table),
@@ -272,6 +273,7 @@ fn run<
         Invocation::Copy { from, to } => copy_file(rt, from.as_str(), to.as_str()),
         Invocation::Restore { from, table } => restore_file(rt, from.as_str(), table.as_str()),
         Invocation::Stop { control } => Ok(stop(rt, control.as_str())),
+        Invocation::Reopen { control } => Ok(reopen(rt, control.as_str())),
         Invocation::Serve(options) => match serve(machine, rt, options) {
             Err(fault) => Err(with_advice(rt, fault)),
             ended => ended,

@@ -5,6 +5,7 @@ use hdl_host::{AMPLIFY, Health, Limits};
 use hdl_lastingrows::Alarm;
 use hdl_programs::VERSION;
 use hdl_sqlrows::load::Progress;
+use std::alloc::AllocError;
 use std::sync::Arc;
 use std::time::Duration;
 use std::{fmt, thread};
@@ -14,15 +15,19 @@ use std::{fmt, thread};
 pub enum Notice<'a> {
     /// In memory alone; the handles that were read last may take `row_cache` octets.
     Memory { row_cache: usize },
-    /// In this file.
-    File(&'a str),
+    /// In the file at this path.
+    File { path: &'a str, takes_changes: bool },
 }
 
 impl fmt::Display for Notice<'_> {
     fn fmt<W: fmt::Write>(&self, f: &mut fmt::Formatter<W>) -> fmt::Result {
         match self {
             Notice::Memory { row_cache } => write!(f, "memory, row cache {row_cache} octets"),
-            Notice::File(path) => write!(f, "{path}"),
+            Notice::File {
+                path,
+                takes_changes: true,
+            } => write!(f, "{path}"),
+            Notice::File { path, .. } => write!(f, "{path}, read-only: changes are answered 5"),
         }
     }
 }
@@ -63,15 +68,20 @@ impl fmt::Display for Beginning<'_> {
     }
 }
 
-/// Says what begins: which program, over which table, for which, and within which limits.
-pub fn say_begins(rt: &HostRuntime, tenants: &Tenants, kept: Notice<'_>, limits: Limits) {
+/// What is said once the server listens: which program, over which table, for which, and within which limits.
+pub fn begins_line(
+    rt: &HostRuntime,
+    tenants: &Tenants,
+    kept: Notice<'_>,
+    limits: Limits,
+) -> Result<String, AllocError> {
     let beginning = Beginning {
         publishers: tenants.publishers(),
         lanes: tenants.lanes(),
         kept,
         limits,
     };
-    let _ = eprintln!(rt; "handled {VERSION}: begins: {beginning}");
+    format!(in rt.alloc(); "handled {VERSION}: begins: {beginning}\n")
 }
 
 /// How often it is looked whether the last line was said, and for how many milliseconds each time.

@@ -9,7 +9,8 @@ use hdl_host::{HostFault, Setting};
 use hdl_lastingrows::TableFault;
 use hdl_server_options::TableFile;
 use hdl_tables::{
-    Closing, LogState, Note, Table, TablePath, TabledFault, is_new, log_state, open_served,
+    Closing, LogState, Note, Table, TablePath, TabledFault, is_new, log_state, not_there,
+    open_served,
 };
 use std::net::{Net, TcpListener, TcpStream};
 use std::sync::Arc;
@@ -85,8 +86,13 @@ pub fn open_planned<
     file: &TableFile,
     plan: &P,
 ) -> Result<Table<R, TableNotices>, ProgramFault> {
+    let path = file.path.as_str();
+    if !plan.setting().takes_changes && is_new(rt, path) {
+        // a new table would be empty, and a standby would say that no handle is there
+        return Err(ProgramFault::from(not_there(rt, path)));
+    }
     try_ports(rt, file, plan.tenants(), plan.setting())?;
-    let state = log_state(rt, file.path.as_str())?;
+    let state = log_state(rt, path)?;
     let table = open_once(*machine, rt, file, plan)?;
     match state {
         LogState::Settled => return Ok(table),

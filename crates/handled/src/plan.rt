@@ -1,8 +1,8 @@
 //! Which tenants the program serves, and in which setting.
 
 use crate::bounds::bounds_of;
-use crate::ports::say_shared;
-use crate::supervising::log_at;
+use crate::ports::say_unservable;
+use crate::supervising::take_log;
 use hdl_core::Tenants;
 use hdl_host::{Health, Limits, Setting, Supervision, notices_of};
 use hdl_programs::{Fault, tenants_of};
@@ -10,8 +10,8 @@ use hdl_server_options::{BoundWord, LimitOptions, SupervisionOptions};
 use std::net::IpAddr;
 use std::sync::Arc;
 
-/// The exit status where two publishers have one port, as of a faulty text.
-const SHARED: u8 = 3;
+/// The exit status if no server can start with the text's publishers, as of a faulty text.
+const UNSERVABLE: u8 = 3;
 
 /// Which tenants are served, and in which setting.
 ///
@@ -83,7 +83,7 @@ fn supervision_of(
     supervision.control = control;
     supervision.proxied = proxied;
     if let Some(path) = log {
-        supervision.log = Some(log_at(rt, path.as_str())?);
+        take_log(rt, path.as_str(), &mut supervision)?;
     }
     Ok(supervision)
 }
@@ -93,6 +93,7 @@ pub fn setting_of(
     rt: &HostRuntime,
     addresses: Vec<IpAddr>,
     limits: LimitOptions,
+    takes_changes: bool,
     supervision: SupervisionOptions,
 ) -> Result<Setting, Fault> {
     let limits = limits_of(limits);
@@ -101,11 +102,12 @@ pub fn setting_of(
         addresses,
         limits,
         bounds: Vec::new(rt.alloc()),
+        takes_changes,
         supervision,
     })
 }
 
-/// The plan that a text, a setting and the words of bounds make. Where two publishers have one port, or a word is no bound of the text, that is said on standard error.
+/// The plan that a text, a setting and the words of bounds make. If the text has no publisher, two of them have one port, or a word is no bound of the text, that is said on standard error.
 pub fn plan_of(
     rt: &HostRuntime,
     text: &str,
@@ -114,8 +116,8 @@ pub fn plan_of(
 ) -> Result<Planned, Fault> {
     let mut setting = setting;
     let tenants = tenants_of(rt.alloc(), text)?;
-    if say_shared(rt, &tenants) {
-        return Ok(Planned::Refused(SHARED));
+    if say_unservable(rt, &tenants) {
+        return Ok(Planned::Refused(UNSERVABLE));
     }
     match bounds_of(rt.alloc(), words, text, &tenants) {
         Ok(bounds) => {

@@ -49,7 +49,7 @@ fn earlier_at(tenants: &Tenants, place: usize, port: u16) -> Option<&str> {
 }
 
 /// Says on standard error which publishers have one port; whether some have.
-pub fn say_shared(rt: &HostRuntime, tenants: &Tenants) -> bool {
+fn say_shared(rt: &HostRuntime, tenants: &Tenants) -> bool {
     let mut is_shared = false;
     for place in 0..tenants.publishers() {
         let Some((name, _, port)) = tenants.publisher(place) else {
@@ -63,6 +63,17 @@ pub fn say_shared(rt: &HostRuntime, tenants: &Tenants) -> bool {
         }
     }
     is_shared
+}
+
+/// Says on standard error why no server can start with these tenants: there is no publisher, or some have one port. Answers whether that is so.
+pub fn say_unservable(rt: &HostRuntime, tenants: &Tenants) -> bool {
+    if tenants.publishers() > 0 {
+        return say_shared(rt, tenants);
+    }
+    let _ = eprintln!(rt;
+        "tenants: the text has no publisher: give each a line `publisher NAME LANES PORT`, and each of its prefixes a line `prefix PREFIX NAME`; `hdl init PREFIX > WORDS`, then `hdl tenants < WORDS` makes such a text"
+    );
+    true
 }
 
 /// Opens a port by TCP and UDP, and closes both.

@@ -6,7 +6,7 @@ ghost use Rattle.hdl_rows.specs.Table.{no_rows};
 use crate::descriptors::say_descriptors;
 use crate::fault::ProgramFault;
 use crate::guarding::TableGuard;
-use crate::notices::{Notice, say_begins, say_ends};
+use crate::notices::{Notice, begins_line, say_ends};
 use crate::plan::Plan;
 use hdl_core::Owing;
 use hdl_guardedrows::GuardedRows;
@@ -76,12 +76,14 @@ pub fn serve_memory<
 {
     let limits = plan.setting().limits;
     say_descriptors(rt, plan.tenants(), limits);
-    say_begins(rt, plan.tenants(), Notice::Memory { row_cache }, limits);
+    let kept = Notice::Memory { row_cache };
+    let begins = begins_line(rt, plan.tenants(), kept, limits).map_err(Fault::from)?;
     let mut output = rt.stdout();
     let ending = ending_of(plan.setting())?;
     let health = health_of(plan.setting())?;
     let guard = guard_of(rt, plan.setting(), None)?;
-    let (tenants, setting) = plan.into_parts();
+    let (tenants, mut setting) = plan.into_parts();
+    setting.supervision.begins = begins;
     let rows = GuardedRows::new(rows, guard);
     host_tenants(machine, rt.alloc(), rows, tenants, setting, &mut output)?;
     say_ends(rt, &health, ending.is_asked());
@@ -105,12 +107,17 @@ pub fn serve_table<
 >(machine: &R, rt: &HostRuntime, table: T, plan: P, path: &str) -> Result<u8, ProgramFault> {
     let limits = plan.setting().limits;
     say_descriptors(rt, plan.tenants(), limits);
-    say_begins(rt, plan.tenants(), Notice::File(path), limits);
+    let kept = Notice::File {
+        path,
+        takes_changes: plan.setting().takes_changes,
+    };
+    let begins = begins_line(rt, plan.tenants(), kept, limits).map_err(Fault::from)?;
     let mut output = rt.stdout();
     let ending = ending_of(plan.setting())?;
     let health = health_of(plan.setting())?;
     let guard = guard_of(rt, plan.setting(), watch(rt, path)?)?;
     let (tenants, mut setting) = plan.into_parts();
+    setting.supervision.begins = begins;
     setting.supervision.file = watch(rt, path)?;
     let rows = GuardedRows::new(table, guard);
     let rows = host_resumed(machine, rt.alloc(), rows, tenants, setting, &mut output)?;

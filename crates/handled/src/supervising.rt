@@ -1,42 +1,28 @@
-//! What a server tells of itself, and the word that ends one.
+//! What a server tells of itself, and the words that a running one takes.
 
-use hdl_host::{Log, STOP};
+use hdl_host::{Log, REOPEN, STOP, Supervision};
 use hdl_programs::Fault;
-use std::fs;
-use std::fs::OpenOptions;
 use std::io::{self, ErrorKind, Read, Write};
-use std::os::unix::fs::{FileTypeExt, OpenOptionsExt};
 use std::os::unix::net::UnixStream;
-
-/// The program's own user alone reads a log: it tells who changes what.
-const MODE: u32 = 0o600;
 
 /// The word that stands for standard error.
 const ERRORS: &str = "-";
 
-fn open_log(rt: &HostRuntime, path: &str) -> io::Result<Log> {
+fn open_log(rt: &HostRuntime, path: &str, supervision: &mut Supervision) -> io::Result<()> {
     if path == ERRORS {
-        return Log::to_errors(rt.alloc());
+        supervision.log = Some(Log::to_errors(rt.alloc())?);
+        return Ok(());
     }
-    let mut options = OpenOptions::new();
-    options.append(true).create(true).mode(MODE);
-    // who opens a FIFO to read too waits for no reader, and lines wait in it for one
-    options.read(is_fifo(rt, path));
-    Log::to_file(rt.alloc(), options.open(rt, path)?)
-}
-
-/// Whether a FIFO is there.
-fn is_fifo(rt: &HostRuntime, path: &str) -> bool {
-    match fs::metadata(rt, path) {
-        Ok(found) => found.file_type().is_fifo(),
-        Err(_) => false,
-    }
+    let (log, file) = Log::to_file(rt, path)?;
+    supervision.log = Some(log);
+    supervision.log_file = Some(file);
+    Ok(())
 }
 
 /// Opens the log of changes. What can't be opened is said on standard error.
-pub fn log_at(rt: &HostRuntime, path: &str) -> Result<Log, Fault> {
-    match open_log(rt, path) {
-        Ok(log) => Ok(log),
+pub fn take_log(rt: &HostRuntime, path: &str, supervision: &mut Supervision) -> Result<(), Fault> {
+    match open_log(rt, path, supervision) {
+        Ok(()) => Ok(()),
         Err(e) => {
             let _ = eprintln!(rt;
                 "log: cannot open {path}: {e}: name a file in a folder that the program may write to"
@@ -46,22 +32,22 @@ pub fn log_at(rt: &HostRuntime, path: &str) -> Result<Log, Fault> {
     }
 }
 
-/// Says the word, and waits until the server has ended.
-fn stop_at(rt: &HostRuntime, control: &str) -> io::Result<()> {
+/// Says a word, and waits until the server has ended or answered. How many octets it answered.
+fn say_at(rt: &HostRuntime, control: &str, word: &[u8]) -> io::Result<usize> {
     let mut stream = UnixStream::connect(rt, control)?;
-    stream.write_all(STOP)?;
+    stream.write_all(word)?;
     let mut octets = [0; 1];
     match stream.read(&mut octets) {
         // the server's end may break the connection
-        Err(e) if e.kind() != ErrorKind::ConnectionReset => Err(e),
-        _ => Ok(()),
+        Err(e) if e.kind() == ErrorKind::ConnectionReset => Ok(0),
+        answered => answered,
     }
 }
 
 /// Ends the server that takes the word at this socket, and answers the exit status.
 pub fn stop(rt: &HostRuntime, control: &str) -> u8 {
-    match stop_at(rt, control) {
-        Ok(()) => 0,
+    match say_at(rt, control, STOP) {
+        Ok(_) => 0,
         Err(e) => {
             let _ = eprintln!(rt;
                 "stop: no server at {control}: {e}: name the path of a running server's --control"
@@ -69,4 +55,22 @@ pub fn stop(rt: &HostRuntime, control: &str) -> u8 {
             Fault::Device.status()
         }
     }
+}
+
+/// Has the server that takes the word at this socket open its log anew, and answers the exit status.
+pub fn reopen(rt: &HostRuntime, control: &str) -> u8 {
+    match say_at(rt, control, REOPEN) {
+        Ok(0) => return 0,
+        Ok(_) => {
+            let _ = eprintln!(rt;
+                "reopen: the server at {control} writes its log into no file: start it with --log FILE"
+            );
+        }
+        Err(e) => {
+            let _ = eprintln!(rt;
+                "reopen: no server at {control}: {e}: name the path of a running server's --control"
+            );
+        }
+    }
+    Fault::Device.status()
 }

@@ -73,7 +73,7 @@ fn handle_net(alloc: Global) -> Arg<'static> {
     flag(
         alloc,
         "handle-net",
-        "Lays values out as, to our knowledge, Handle.Net software does: for ports whose line ends with handle-net",
+        "Uses the layout that Handle.Net software is believed to have: for ports whose line ends with handle-net",
     )
 }
 
@@ -93,6 +93,7 @@ fn question<'a>(alloc: Global, name: &'a str, about: &'a str) -> Result<Command<
         .arg(
             Arg::new(alloc, "handle")
                 .value_name("HANDLE")
+                .help("The handle, such as 10/a; of list, the prefix, such as 10")
                 .required(true)
                 .action(ArgAction::Set),
         )?
@@ -247,7 +248,7 @@ fn export<'a>(alloc: Global) -> Result<Command<'a>, AllocError> {
         .arg(flag(
             alloc,
             "csv",
-            "As a CSV file, which hdl import reads as the same values; without --json this is done",
+            "Writes CSV, which hdl import reads as the same values; the default",
         ))?
         .arg(flag(
             alloc,
@@ -269,11 +270,16 @@ fn init<'a>(alloc: Global) -> Result<Command<'a>, AllocError> {
         .arg(
             Arg::new(alloc, "prefixes")
                 .value_name("PREFIX")
+                .help("The prefix of a publisher, such as 10 or 20.500; may be repeated")
                 .required(true)
                 .num_args(1..)
                 .action(ArgAction::Append),
         )?
-        .arg(handle_net(alloc))
+        .arg(flag(
+            alloc,
+            "handle-net",
+            "Ends the publishers' lines with handle-net, for Handle.Net software",
+        ))
 }
 
 /// The options by which the data of an HS_SITE value is made.
@@ -320,7 +326,7 @@ fn site<'a>(alloc: Global) -> Result<Command<'a>, AllocError> {
     let command = Command::new(alloc, "site")
         .about("Makes or shows the data of an HS_SITE value, which says where a prefix's server is")
         .after_help(
-            "A prefix is registered by its HS_SITE value: send the data to who registers prefixes. docs/HANDLE_NET.md has the steps",
+            "A prefix is registered by its HS_SITE value: send the data to the agency that registers prefixes. docs/HANDLE_NET.md has the steps",
         );
     making_options(command, alloc)?
         .arg(option(

@@ -4,7 +4,7 @@ ghost use Rattle.std.specs.Prelude.{◌≡◌, IfOk, IfSome, OnOk, OnErr};
 ghost use Rattle.hdl_name.specs.Name.{canonical};
 ghost use Rattle.hdl_value.specs.Refs.{place_of};
 ghost use Rattle.hdl_rows.specs.Table.{Table, AreRefusalsAfter};
-ghost use Rattle.hdl_reach.specs.Cost.{ReadsWithin, values_cost};
+ghost use Rattle.hdl_reach.specs.Cost.{ReadsWithin, grants_cost};
 ghost use Rattle.hdl_reach.specs.Reach.{IsMask};
 ghost use Rattle.hdl_reach.specs.Search.{handle_of, IsSearch, AgreeBeside};
 ghost use Rattle.hdl_reach.specs.Views.{mask_of};
@@ -122,7 +122,7 @@ impl MasksAndSearches {
         ensures of_table { AreTrue (R.content rows.old) self.new }
         ensures search { IfOk result (λ search. IsSearch (R.content rows.old) search × (handle_of search ≡ canonical name.now)) }
         ensures count { AreRefusalsAfter result (R.refused rows.old) (R.refused rows.new) }
-        ensures cost { ReadsWithin (R.content rows.old) values_cost (R.reads rows.old) (R.reads rows.new) }
+        ensures cost { ReadsWithin (R.content rows.old) grants_cost (R.reads rows.old) (R.reads rows.new) }
     {
         if let Some(search) = self.take(name) {
             return Ok(search);

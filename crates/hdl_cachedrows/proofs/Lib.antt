@@ -1,3 +1,4 @@
 pub mod Keys
 pub mod Totals
 pub mod Truth
+pub mod Puts

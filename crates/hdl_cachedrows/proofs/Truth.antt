@@ -2,14 +2,14 @@
 use Rattle.std.proofs.Common.{◌≡◌, ◌≢◌, ℕ, true, false, Vec, List, [], ◌∷◌, ◌-◌, ◌==◌, length, map, take, Option, None, Some, Result, Ok, Err, OnOk, OnErr, is_some, inl, inr, refl, sym, ap, ◌∙◌, subst, true≢false, Contains}
 use Rattle.std.specs.declared.alloc.Global.{Global}
 use Rattle.std.specs.List.{AllByRecursion, IsDistinct}
-use Rattle.std.specs.Map.{keys_of, lookup, remove_entry}
+use Rattle.std.specs.Map.{keys_of, lookup, lookup_entry, remove_entry}
 use Rattle.hdl_value.specs.declared.value.Value.{Value}
 use Rattle.hdl_rows.specs.Heads.{head}
-use Rattle.hdl_rows.specs.Table.{Table, place, has, at, values_of, values_in, value_with, HaveTheirIndexes}
-use Rattle.hdl_rows.specs.Write.{Write, handle_of, after_write}
+use Rattle.hdl_rows.specs.Table.{Table, place, has, at, values_of, values_in, value_with, with_values, HaveTheirIndexes}
+use Rattle.hdl_rows.specs.Write.{Write, Add, handle_of, after_write}
 use Rattle.hdl_rows.proofs.Writes.{other_handles_stay_lem}
 use Rattle.lru.specs.LruCache.{lru_cache, promoted, put_entries}
-use Rattle.lru.proofs.CallerLemmas.{Contains-lookup, Contains-promoted, Contains-put_entries, Contains-take}
+use Rattle.lru.proofs.CallerLemmas.{Contains-lookup, Contains-lookup_entry, Contains-promoted, Contains-put_entries, Contains-take}
 use Rattle.lru.proofs.Splits.{Contains-cons, Contains-head, Contains-nil, Contains-tail}
 use Rattle.hdl_cachedrows.specs.declared.kept.Kept.{Kept}
 use Rattle.hdl_cachedrows.specs.declared.kept.Kept.TheVariants.{Values, Heads}
@@ -123,6 +123,17 @@ forgotten_true t u h es distinct all agree e there =
     let was = left h es distinct e there in
     let on = agree e.0.items was.1 in
     stays t u e.0.items e.1 on.0 on.1 on.2 (all e was.0)
+
+-- what was forgotten is of the handle
+pub forgotten_was : (t : Table) (h : List ℕ) (es : List Entry) (e : Entry) → AreTrue t es → lookup_entry (is_key h) es ≡ Some e → (e.0.items ≡ h) × IsKept t h e.1
+forgotten_was t h es e all is =
+    let there = Contains-lookup_entry (is_key h) es e is in
+    let name = sym (same h e.0.items there.1) in
+    (name, subst (λ g. IsKept t g e.1) name (all e there.0))
+
+-- values that are put leave what is answered at every other handle
+pub puts_agree : (t : Table) (h : List ℕ) (vs : List Value) → AgreeBut h t (with_values t h vs)
+puts_agree t h vs g other = other_handles_stay_lem t (Add h vs) g other
 
 -- a write, done or refused, leaves what is answered at every other handle
 pub agree : {X E : Type 0} (r : Result X E) (w : Write) (t u : Table) → OnOk r (u ≡ after_write t w) → OnErr r (u ≡ t) → AgreeBut (handle_of w) t u

@@ -1,9 +1,9 @@
 //! What was read last, by handle.
 
 ghost use Rattle.std.specs.Prelude.{◌≡◌, ◌≤◌, [], true, IfOk, IfSome};
-ghost use Rattle.hdl_rows.specs.Table.{Table, place, has, at};
+ghost use Rattle.hdl_rows.specs.Table.{Table, place, has, at, with_values};
 ghost use Rattle.hdl_cachedrows.specs.Cost.{total};
-ghost use Rattle.hdl_cachedrows.specs.Cache.{AgreeBut, AreHeads, AreTrue, IsFound};
+ghost use Rattle.hdl_cachedrows.specs.Cache.{AgreeBut, AreHeads, AreTrue, IsFound, IsKept};
 
 use crate::kept::Kept;
 use hdl_value::Value;
@@ -107,17 +107,25 @@ impl Cache {
         let Ok(kept) = Kept::of(self.alloc, name, values, share) else {
             return;
         };
-        let cost = kept.cost(name);
-        if cost > share {
-            return;
-        }
-        let Ok(key) = Vec::from_slice(self.alloc, name) else {
+        let Ok(name) = Vec::from_slice(self.alloc, name) else {
             return;
         };
+        self.insert(name, kept);
+    }
+
+    /// Keeps this of a handle, unless it costs more than its share. Want of memory keeps nothing.
+    fn insert(&mut self, name: Vec<u8>, kept: Kept)
+        ensures still_true { (t : Table) → AreTrue t self.old.kept.entries → IsKept t name.items kept → AreTrue t self.new.kept.entries }
+        ensures same_limit { self.new.limit ≡ self.old.limit }
+    {
+        let cost = kept.cost(&name);
+        if cost > self.limit / SHARES {
+            return;
+        }
         self.shrink(self.limit - cost);
         // `len` says that there are no more than the map has room for, so `push` tells of each that it lets go.
         let _ = self.kept.len();
-        if let Ok(displaced) = self.kept.push(key, kept) {
+        if let Ok(displaced) = self.kept.push(name, kept) {
             self.octets += cost;
             if let Some((name, kept)) = displaced {
                 self.octets -= kept.cost(&name);
@@ -125,8 +133,23 @@ impl Cache {
         }
     }
 
-    /// Forgets what is kept of a handle.
-    pub(crate) fn forget(&mut self, name: &[u8])
+    /// Puts values that were put into the table among what is kept of a handle. It is forgotten if it would cost more than its share, or memory
+    /// was refused.
+    pub(crate) fn put(&mut self, name: &[u8], values: &[Value])
+        ensures still_true { (t : Table) → AreTrue t self.old.kept.entries → AreTrue (with_values t name.now values.now) self.new.kept.entries }
+        ensures same_limit { self.new.limit ≡ self.old.limit }
+    {
+        let Some((name, kept)) = self.forget(name) else {
+            return;
+        };
+        if let Ok(kept) = kept.with_values(self.alloc, values) {
+            self.insert(name, kept);
+        }
+    }
+
+    /// Forgets what is kept of a handle, and returns it.
+    pub(crate) fn forget(&mut self, name: &[u8]) -> Option<(Vec<u8>, Kept)>
+        ensures of_table { (t : Table) → AreTrue t self.old.kept.entries → IfSome result (λ entry. (entry.0.items ≡ name.now) × IsKept t name.now entry.1) }
         ensures still_true { (t : Table) (u : Table) → AreTrue t self.old.kept.entries → AgreeBut name.now t u → AreTrue u self.new.kept.entries }
         ensures same_limit { self.new.limit ≡ self.old.limit }
     {
@@ -134,6 +157,8 @@ impl Cache {
         let _ = self.kept.len();
         if let Some((name, kept)) = self.kept.pop_entry(name) {
             self.octets -= kept.cost(&name);
+            return Some((name, kept));
         }
+        None
     }
 }

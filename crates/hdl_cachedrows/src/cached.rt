@@ -147,13 +147,15 @@ impl<R: Rows + Drop> Rows for CachedRows<R> {
     }
 
     fn add(&mut self, name: &Name, values: &[Value]) -> Result<(), Refused> {
-        self.cache.forget(name.canon());
-        self.rows.add(name, values)
+        self.rows.add(name, values)?;
+        self.cache.put(name.canon(), values);
+        Ok(())
     }
 
     fn modify(&mut self, name: &Name, values: &[Value]) -> Result<(), Refused> {
-        self.cache.forget(name.canon());
-        self.rows.modify(name, values)
+        self.rows.modify(name, values)?;
+        self.cache.put(name.canon(), values);
+        Ok(())
     }
 
     fn remove(&mut self, name: &Name, indexes: &[u32]) -> Result<(), Refused> {

@@ -1,8 +1,12 @@
 //! What is kept of a handle: its values, or their heads alone.
 
-ghost use Rattle.std.specs.Prelude.{◌≡◌, List, ℕ, IfOk, IfSome};
+ghost use Rattle.std.specs.Prelude.{◌≡◌, List, ℕ, nat_lt, IfOk, IfSome, OnOk};
+ghost use Rattle.std.specs.List.{prefix_len};
+ghost use Rattle.std.specs.FinMap.{put};
+ghost use Rattle.std.specs.Ordering.{nat_cmp};
 ghost use Rattle.hdl_limits.specs.Counts.{at_most_u64};
-ghost use Rattle.hdl_rows.specs.Table.{Table, place, at, value_with};
+ghost use Rattle.hdl_rows.specs.Shelf.{by_index, put_all};
+ghost use Rattle.hdl_rows.specs.Table.{Table, place, at, value_with, with_values};
 ghost use Rattle.hdl_cachedrows.specs.Cost as cost;
 ghost use Rattle.hdl_cachedrows.specs.Cache.{AreHeads, IsFound, IsKept};
 
@@ -31,6 +35,38 @@ fn copies(alloc: Global, values: &[Value]) -> Result<Vec<Value>, AllocError>
     Ok(all)
 }
 
+/// How many of the values at the front have a lower index.
+fn count_below(values: &[Value], index: u32) -> usize
+    ensures { result ≡ prefix_len (λ v. nat_lt v.index index) values.now }
+{
+    values
+        .iter()
+        .take_while(|value| value.index < index)
+        .count()
+}
+
+/// Puts a value in its order among values by rising index. If there is one with its index, it is replaced.
+fn put_value(values: &mut Vec<Value>, value: Value) -> Result<(), AllocError>
+    ensures put { OnOk result (by_index values.new.items ≡ put nat_cmp value.index value (by_index values.old.items)) }
+{
+    let at = count_below(values, value.index);
+    if at < values.len() && values[at].index == value.index {
+        values[at] = value;
+        return Ok(());
+    }
+    values.insert(at, value)?;
+    Ok(())
+}
+
+fn put_values(values: &mut Vec<Value>, others: Vec<Value>) -> Result<(), AllocError>
+    ensures put { OnOk result (by_index values.new.items ≡ put_all (by_index values.old.items) others.items) }
+{
+    for value in others {
+        put_value(values, value)?;
+    }
+    Ok(())
+}
+
 /// A copy of the value with this index, if there is one.
 fn copy_with(alloc: Global, values: &[Value], index: u32) -> Result<Option<Value>, AllocError>
     ensures { IfOk result (λ value. value ≡ value_with index values.now) }
@@ -55,6 +91,22 @@ impl Kept {
             Ok(Kept::Heads(heads_of(alloc, values)?))
         } else {
             Ok(Kept::Values(copies(alloc, values)?))
+        }
+    }
+
+    /// What is kept of a handle once these values were put into the table. Nothing but these is copied.
+    pub(crate) fn with_values(self, alloc: Global, values: &[Value]) -> Result<Kept, AllocError>
+        ensures of_table { (t : Table) (h : List ℕ) → IsKept t h self → IfOk result (IsKept (with_values t h values.now) h) }
+    {
+        match self {
+            Kept::Values(mut all) => {
+                put_values(&mut all, copies(alloc, values)?)?;
+                Ok(Kept::Values(all))
+            }
+            Kept::Heads(mut heads) => {
+                put_values(&mut heads, heads_of(alloc, values)?)?;
+                Ok(Kept::Heads(heads))
+            }
         }
     }
 

@@ -2,8 +2,9 @@
 //!
 //! [`CachedRows`] wraps a table of any kind. A read of a handle whose values are kept is answered from a hash map, in memory, and
 //! takes no call of that table; any other goes to it, and what [`look`](hdl_rows::Rows::look) found is kept. Of a handle whose values cost too
-//! much their heads are kept, which answer `exists`, `heads`, and `at` for an index without a value. A write forgets the handle that
-//! it names, and reaches the table as it came. So that table decides all that is said and refused, and its count is the count.
+//! much their heads are kept, which answer `exists`, `heads`, and `at` for an index without a value. A write reaches the table as it came.
+//! So that table decides all that is said and refused, and its count is the count. Values that it added or replaced are put among those that
+//! are kept; any other write forgets the handle that it names.
 //!
 //! What is kept has a bound in octets. Where a handle more would be too much, those that were used longest ago go. That the bound is kept is
 //! proved ([`CachedRows::octets`]), and that what is kept is the table's (`AreTrue` of `specs/Cache.antt`).
@@ -24,13 +25,15 @@
 //! - **One handle takes at most a sixty-fourth of the bound**, so it can't push all others out. If its values cost more, their heads are kept,
 //!   and each shown value is one call of the table. By default that is 655,360 octets, which the heads of 1,024 values never exceed. With a
 //!   bound so small that the heads cost more than their share, nothing is kept of the handle.
-//! - **What stays dear is the first question** about a large handle: after a start, after each write of it, and after other handles pushed its
+//! - **An add copies no handle**: to forget it would let the next question read all of its values again. So an add costs what its own values cost,
+//!   and a look over the heads that are kept. If what is kept outgrows its share, the handle is forgotten, once.
+//! - **What stays dear is the first question** about a large handle: after a start, after a removal of its values, and after other handles pushed its
 //!   heads out. That question reads all of its values, for their heads: 50 milliseconds for 32 MB in SQL. So does `values` each time.
 //! - **Handles that are absent aren't kept**: a client that asks for names that don't exist would push out those that are asked for.
 //! - **Only `look` keeps**: no other call tells both whether a handle is there and all of its values. If `heads` finds nothing kept, it calls
 //!   `look`, so that a small handle is read once for its heads and its values. `values`, `at` and `exists` are answered from what is kept.
 //! - **A copy that memory was refused for is asked of the table**, which answers or refuses as it would have without.
-//! - **Every write forgets its handle, refused ones too**: that costs a look-up, and one rule is easier than two.
+//! - **Every other write forgets its handle, refused ones too**: that costs a look-up, and one rule is easier than two. A refused add changes nothing.
 //! - **The hasher has random keys**: names are chosen by publishers, and with a fixed seed one of them could choose names that all fall into
 //!   one place, and each look-up would go over all of them.
 //! - **No room is taken before it is used**: `lru` reserves the map's room for a cache with a number of entries, so this one has none, and

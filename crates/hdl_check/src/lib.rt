@@ -4,9 +4,9 @@
 //! text -> check -> Report: each faulty line with what is wrong and what to do, or what each publisher gets
 //! ```
 //!
-//! Each line is judged by [`hdl_tenants::Tenants::read`] itself, in a text of those accepted lines before it that it rests on, so what is called
-//! faulty is refused by the service; and a text without its faulty lines is read whole once more. The words only explain. Promised is that
-//! everything here is total; what is printed is tested.
+//! [`hdl_tenants::Tenants::read`] judges the whole text. If it refuses that, it judges each line too, in a text of those accepted lines before it that it
+//! rests on, and the text without its faulty lines. The words only explain. Promised is that a text is told as accepted exactly if the service
+//! accepts it (`specs/Report.antt`); what is printed is tested.
 //!
 //! ```rust
 //! // crates/handled/src/checking.rt

@@ -1,5 +1,9 @@
 //! What a tenants text has, or all of its faults.
 
+ghost use Rattle.std.specs.Prelude.{IfOk};
+ghost use Rattle.std.specs.Str.Lines.{lines};
+ghost use Rattle.hdl_check.specs.Report.{IsReportOf};
+
 use crate::judging::{Accepted, LineKind, kind_of};
 use crate::reasons::{reason_of, words_of};
 use hdl_tenants::{TenantFault, Tenants};
@@ -90,39 +94,35 @@ impl Found {
         self.take_lines(&mut accepted, text)
     }
 
-    /// What the text has, if no line is faulty.
-    fn summary(&self, text: &str, tenants: &Tenants) -> Result<Option<String>, AllocError> {
-        if !self.faults.is_empty() {
-            return Ok(None);
-        }
-        Ok(Some(summary(self.alloc, text, tenants)?))
-    }
-
-    /// Looks at the lines together that are accepted one by one, and tells what the text has, if nothing is faulty.
-    fn take_whole(&mut self, text: &str) -> Result<Option<String>, AllocError> {
+    /// Looks at the lines together that are accepted one by one.
+    fn take_whole(&mut self) -> Result<(), AllocError> {
         match Tenants::read(self.alloc, &self.rest) {
-            Ok(tenants) => self.summary(text, &tenants),
+            Ok(_) => Ok(()),
             Err((_, TenantFault::Memory)) => Err(AllocError),
             Err((line, fault)) => {
                 let words = words_of(self.alloc, fault)?;
-                self.push_fault(line, words)?;
-                Ok(None)
+                self.push_fault(line, words)
             }
         }
     }
-
-    /// Looks at the whole text, and tells what it has, if nothing is faulty.
-    fn read(&mut self, text: &str) -> Result<Option<String>, AllocError> {
-        self.take_text(text)?;
-        self.take_whole(text)
-    }
 }
 
-pub fn check(alloc: Global, text: &str) -> Result<Report, AllocError> {
+/// The faulty lines of a text.
+fn faults_of(alloc: Global, text: &str) -> Result<Vec<LineFault>, AllocError> {
     let mut found = Found::new(alloc);
-    match found.read(text)? {
-        Some(lines) => Ok(Report::Accepted(lines)),
-        None => Ok(Report::Refused(found.faults)),
+    found.take_text(text)?;
+    found.take_whole()?;
+    Ok(found.faults)
+}
+
+/// Says that a text is accepted exactly if the service accepts it.
+pub fn check(alloc: Global, text: &str) -> Result<Report, AllocError>
+    ensures { IfOk result (IsReportOf (lines text.now)) }
+{
+    match Tenants::read(alloc, text) {
+        Ok(tenants) => Ok(Report::Accepted(summary(alloc, text, &tenants)?)),
+        Err((_, TenantFault::Memory)) => Err(AllocError),
+        Err(_) => Ok(Report::Refused(faults_of(alloc, text)?)),
     }
 }
 

@@ -39,7 +39,7 @@ pub enum ClientFault {
     #[error("the connection was closed")]
     Closed,
     /// Another call of the stream failed.
-    #[error("the connection failed")]
+    #[error("the connection failed before an answer came: check the port; a server with --proxied answers only through its proxy")]
     Connection,
     /// An envelope that is refused.
     #[error("the server sent no frame: {0}")]

@@ -1,3 +1,4 @@
+pub mod Ended
 pub mod Printout
 pub mod Replace
 pub mod Rows

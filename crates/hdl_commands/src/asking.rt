@@ -121,17 +121,45 @@ fn print_reply(
     Ok(())
 }
 
-/// What to do where one reply can't say all that was asked for.
-fn way_on(operation: OpCode, code: Option<ResponseCode>) -> &'static str {
-    if code != Some(ResponseCode::Error) {
-        return "";
-    }
+/// What to do if one reply can't say all that was asked for.
+fn way_to_the_rest(operation: OpCode) -> &'static str {
     match operation {
         OpCode::ListHandles => {
             ": more handles than fit into one reply (65,536 octets). The server's operator can list all: `handled copy --table FILE --to COPY`, then `handled export --table COPY < TENANTS`"
         }
         OpCode::Resolution => {
             ": more values than fit into one reply (65,536 octets): select some with --index or --type"
+        }
+        _ => "",
+    }
+}
+
+/// What values lack that are refused.
+fn way_to_values(operation: OpCode) -> &'static str {
+    match operation {
+        OpCode::CreateHandle => ": a new handle needs an HS_ADMIN value",
+        _ => "",
+    }
+}
+
+/// What to do about a reply with this code.
+pub(crate) fn way_on(operation: OpCode, code: Option<ResponseCode>) -> &'static str {
+    match code {
+        Some(ResponseCode::Error) => way_to_the_rest(operation),
+        Some(ResponseCode::ServerBusy) => {
+            ": nothing was done: try again; if it stays so, the server's /health says why"
+        }
+        Some(ResponseCode::ValueInvalid) => way_to_values(operation),
+        Some(ResponseCode::InvalidHandle) => ": write PREFIX/NAME, such as 10/a",
+        Some(ResponseCode::ServiceReferral) => {
+            ": this port doesn't serve the prefix: name its publisher's port by --server"
+        }
+        Some(ResponseCode::NotAuthorized) => ": the key of --key is no administrator there",
+        Some(ResponseCode::AuthenticationNeeded) => {
+            ": give --key INDEX:HANDLE, and its secret in HDL_SECRET"
+        }
+        Some(ResponseCode::AuthenticationFailed) => {
+            ": the secret isn't that of the key: check HDL_SECRET"
         }
         _ => "",
     }

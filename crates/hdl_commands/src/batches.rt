@@ -1,13 +1,14 @@
 //! A batch, asked of a server.
 
-ghost use Rattle.std.specs.Prelude.{◌≡◌, ◌↔◌, OnOk};
+ghost use Rattle.std.specs.Prelude.{◌≡◌, ◌≢◌, ◌↔◌, IfOk};
 ghost use Rattle.hdl_msg.specs.declared.codes.ResponseCode.TheVariants.{Success};
 ghost use Rattle.hdl_msg.specs.Codes.{response_number};
+ghost use Rattle.hdl_commands.specs.Ended.{EndsWith};
 
 use crate::batch_text::{Layouts, read_batch};
 use crate::telling::tell_fault;
 use crate::words::code_name;
-use hdl_client::{Batch, ClientFault, Outcomes, Task, connect};
+use hdl_client::{Batch, ClientFault, Outcomes, Session, Task, Transport, connect};
 use hdl_lines::printed_octets;
 use hdl_msg::{ReplyView, ResponseCode};
 use hdl_value::Wire;
@@ -63,16 +64,6 @@ pub(crate) fn is_watched(rt: &HostRuntime) -> bool {
     rt.stderr().is_terminal() && !rt.stdout().is_terminal()
 }
 
-fn run_batch(
-    rt: &HostRuntime,
-    server: &str,
-    batch: &Batch,
-    tally: &mut Tally<'_>,
-) -> Result<(), ClientFault> {
-    let mut session = connect(rt, server)?;
-    session.run_batch(batch, tally)
-}
-
 /// Prints how many requests succeeded, and the lines of those that failed.
 fn print_end(tally: &Tally<'_>) {
     let failures = tally.failures;
@@ -83,9 +74,59 @@ fn print_end(tally: &Tally<'_>) {
     }
 }
 
-/// Asks all of a batch of a server that speaks of values by this layout over one connection, and prints a line for each outcome as it comes, and at the end how many
-/// succeeded and the lines of those that failed; progress on standard error, where that is a terminal and the outcomes go elsewhere. Answers the exit status: 0 where every code was 1, 1 where another came, 2 for a text
-/// that is no batch, of which nothing was sent, and 3 where the connection failed, with how many requests have no outcome.
+/// Says on standard error why so many requests have no outcome. Answers the exit status.
+fn tell_unanswered(rt: &HostRuntime, server: &str, fault: ClientFault, left: usize) -> u8
+    ensures { result ≡ 3 }
+{
+    tell_fault(rt, server, fault);
+    let _ = eprintln!(rt; "; {left} without an outcome");
+    3
+}
+
+/// Asks all of a batch. Answers the exit status: 0 if each request succeeded, 1 otherwise.
+fn ask_all<S: Transport>(
+    session: &mut Session<S>,
+    batch: &Batch,
+    tally: &mut Tally<'_>,
+) -> Result<u8, ClientFault>
+    requires { tally.old.failures ≡ 0 }
+    ensures whole { IfOk result (EndsWith S.Transport batch.now.keys.items batch.now.tasks.items session.old.stream session.new.stream) }
+{
+    session.run_batch(batch, tally)?;
+    Ok(u8::from(tally.failures > 0))
+}
+
+/// Asks all of a batch, and prints a line for each outcome as it comes, and at the end how many succeeded and the lines of those that
+/// failed; progress on standard error, if that is a terminal and the outcomes go elsewhere. Answers the exit status: 0 if each request
+/// succeeded, 1 if all have outcomes and one failed, and 3 if the connection failed, with how many requests have no outcome.
+pub fn ask_batch<S: Transport>(
+    rt: &HostRuntime,
+    server: &str,
+    session: &mut Session<S>,
+    batch: &Batch,
+) -> u8
+    ensures whole { result ≢ 3 → EndsWith S.Transport batch.now.keys.items batch.now.tasks.items session.old.stream session.new.stream result }
+{
+    let mut tally = Tally {
+        rt,
+        done: 0,
+        failures: 0,
+        failed: Vec::new(rt.alloc()),
+        shown_of: Some(batch.tasks.len()).filter(|_| is_watched(rt)),
+    };
+    let ended = ask_all(session, batch, &mut tally);
+    print_end(&tally);
+    match ended {
+        Ok(status) => status,
+        Err(fault) => {
+            let left = batch.tasks.len().saturating_sub(tally.done);
+            tell_unanswered(rt, server, fault, left)
+        }
+    }
+}
+
+/// Asks all of a batch of a server that speaks of values by this layout, over one connection ([`ask_batch`]). Answers the exit status: that
+/// of the batch, 2 for a text that is no batch, of which nothing was sent, and 3 if there is no connection.
 pub fn run_batch_text(rt: &HostRuntime, server: &str, wire: Wire, text: &str) -> u8 {
     let batch = match read_batch(rt.alloc(), Layouts::One(wire), text) {
         Ok(batch) => batch,
@@ -94,22 +135,8 @@ pub fn run_batch_text(rt: &HostRuntime, server: &str, wire: Wire, text: &str) ->
             return 2;
         }
     };
-    let mut tally = Tally {
-        rt,
-        done: 0,
-        failures: 0,
-        failed: Vec::new(rt.alloc()),
-        shown_of: Some(batch.tasks.len()).filter(|_| is_watched(rt)),
-    };
-    let ended = run_batch(rt, server, &batch, &mut tally);
-    print_end(&tally);
-    match ended {
-        Ok(()) => u8::from(tally.failures > 0),
-        Err(fault) => {
-            let left = batch.tasks.len().saturating_sub(tally.done);
-            tell_fault(rt, server, fault);
-            let _ = eprintln!(rt; "; {left} without an outcome");
-            3
-        }
+    match connect(rt, server) {
+        Ok(mut session) => ask_batch(rt, server, &mut session, &batch),
+        Err(fault) => tell_unanswered(rt, server, fault, batch.tasks.len()),
     }
 }

@@ -11,6 +11,7 @@
 mod asking;
 mod columns;
 mod counts;
+mod creating;
 mod creation;
 mod reading;
 mod row;

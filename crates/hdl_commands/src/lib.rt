@@ -3,7 +3,7 @@
 //! ```text
 //! Question -> run_question -> hdl_client -> a reply in words ([`words`])
 //! octets -> explain -> the request, reply or value that they are, in words ([`words`])
-//! text of a batch -> read_batch -> Batch -> run_batch, or write_script -> the script that `handled` takes
+//! text of a batch -> read_batch -> Batch -> ask_batch, or write_script -> the script that `handled` takes
 //! lines with values in words -> write_tenants -> lines of a tenants text
 //! rows of a CSV file -> import_file -> the requests that create its handles, or update them ([`imports`])
 //! PREFIX, OLD, NEW -> replace_urls -> the requests that modify URLs ([`replaces`])
@@ -17,7 +17,8 @@
 //! those of `hdl_lines`. Promised is that everything here is total, that a line of a [`Printout`] has no control character, that the
 //! line of a hidden key is a function of its index and the length of its data, and that a handle is imported with just the values that
 //! its rows say (`specs/Rows.antt`), that after an update what the rows name is there and all else as it was (`specs/Update.antt`), that a
-//! replacement changes the data of URLs alone, and that a row that is written is read as its value (`specs/Replace.antt`); what else is printed is tested.
+//! replacement changes the data of URLs alone, that a row that is written is read as its value (`specs/Replace.antt`), and that a batch's
+//! exit status says whether each request succeeded (`specs/Ended.antt`); what else is printed is tested.
 //!
 //! ```rust
 //! // crates/hdl/src/main.rt
@@ -45,7 +46,7 @@ mod words;
 
 pub use asking::{Inquiry, run_question};
 pub use batch_text::{BatchFault, Layouts, read_batch};
-pub use batches::run_batch_text;
+pub use batches::{ask_batch, run_batch_text};
 pub use exports::{Table, export_values};
 pub use fault::WordFault;
 pub use fresh::{FreshFault, fresh_secret, write_fresh_tenants};

@@ -6,6 +6,8 @@
 //! ```
 
 mod asking;
+mod course;
 mod data;
+mod fault;
 
 pub use asking::{Replacement, replace_urls};

@@ -132,7 +132,7 @@ fn digits_of(alloc: Global, plan: &ServerPlan) -> Result<String, SiteFault>
 
 /// What the operator does with the data.
 const NEXT: &str = "\
-    hdl: send the octets to who registers the prefix: they become the HS_SITE value of 0.NA/PREFIX there\n\
+    hdl: send the octets to the agency that registers the prefix: they become the HS_SITE value of 0.NA/PREFIX there\n\
     hdl: the port must be open to the network, and its publisher's line must end with handle-net; see docs/HANDLE_NET.md\n";
 
 /// The digits in a line of their own: of a tenants text, where a publisher is named.

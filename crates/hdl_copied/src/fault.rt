@@ -7,7 +7,7 @@ use thiserror::Error;
 /// Why a copy can't be read. It is as it was.
 #[derive(Clone, Copy, Debug, PartialEq, Eq, Error)]
 pub enum CopyFault {
-    #[error("the file is missing, or this proxy's user may not read and write it: name a copy that `handled copy` made")]
+    #[error("the file is missing, or this proxy's user may not write it and its folder: name a copy that `handled copy` made")]
     CannotOpen,
     #[error("another process has the file open: name a copy, not the server's own file")]
     InUse,

@@ -22,7 +22,7 @@ use Rattle.hdl_msg.specs.declared.replies.ReplyContent.TheVariants.{Empty}
 use Rattle.hdl_events.specs.declared.Outcome.TheVariants.{Reply, Silent}
 use Rattle.hdl_laws.specs.Lanes.{LaneState, fresh, with_partials}
 use Rattle.hdl_laws.specs.Tasks as tasks
-use Rattle.hdl_laws.specs.Tasks.{Received, Task, Ignore, Malformed, Unknown, Late, Ask, Inform, Redeem, told_site, ask_task, is_late, without_challenge, redeem_task, IsReading, IsResponseTask, IsRequestTask, IsContentTask, IsMessageTask, IsWholeTask}
+use Rattle.hdl_laws.specs.Tasks.{Received, Task, Ignore, Malformed, Unknown, Late, Deny, Ask, Inform, Redeem, told_site, ask_task, request_task, is_denied, is_late, without_challenge, due_task, redeem_task, IsReading, IsResponseTask, IsRequestTask, IsContentTask, IsMessageTask, IsWholeTask}
 use Rattle.hdl_laws.specs.Effects.{Effect, answer_effect, challenge_effect, ask_effect, Does}
 use Rattle.hdl_core.specs.declared.origin.Origin.{Origin}
 use Rattle.hdl_core.specs.Held.{Held, held_at, state_at, with_state}
@@ -56,10 +56,14 @@ module _ (speech : Speech) (hosts : List ℕ → Bool) (algorithms : List ℕ �
     same = ap (λ (e : Effect). e.state.partials) does;
   }
 
-  asked : (r : Content) → SpellsRequest speech.wire m.message r → response_of r.operation ≡ None → told_site speech.site r.operation ≡ None → (eff : Effect) → Does hosts algorithms t (Ask m r s) eff → Moved speech hosts algorithms t s p m eff
-  asked r spells is told eff (d, decides, does) = record {
+  -- a request that isn't denied
+  asks : (r : Content) (o : Option (List ℕ)) → told_site speech.site r.operation ≡ o → is_denied speech.takes_changes r.operation ≡ false → ask_task (with_partials s p) m r o ≡ request_task speech (with_partials s p) m r
+  asks r o told allowed = λ i. cond {A = Task} (sym allowed i) (Deny m r (with_partials s p)) (ask_task (with_partials s p) m r (sym told i))
+
+  asked : (r : Content) → SpellsRequest speech.wire m.message r → response_of r.operation ≡ None → told_site speech.site r.operation ≡ None → is_denied speech.takes_changes r.operation ≡ false → (eff : Effect) → Does hosts algorithms t (Ask m r s) eff → Moved speech hosts algorithms t s p m eff
+  asked r spells is told allowed eff (d, decides, does) = record {
     task = Ask m r (with_partials s p);
-    is_task = (Some r, spells, subst (λ x. IsRequestTask speech (with_partials s p) m r x (Ask m r (with_partials s p))) (sym is) (ap (ask_task (with_partials s p) m r) (sym told)));
+    is_task = (Some r, spells, subst (λ x. IsRequestTask speech (with_partials s p) m r x (Ask m r (with_partials s p))) (sym is) (asks r None told allowed));
     effect = ask_effect alg (with_partials s p) m r d;
     does = (d, decides, refl);
     outcome = outcome_by (d.code == 402) ∙ sym (ap (λ (e : Effect). e.outcome) does);
@@ -101,23 +105,33 @@ module _ (speech : Speech) (hosts : List ℕ → Bool) (algorithms : List ℕ �
     same = ap (λ (e : Effect). e.state.partials) is ∙ same;
   }
 
-  informs : (r : Content) (site : List ℕ) → SpellsRequest speech.wire m.message r → response_of r.operation ≡ None → told_site speech.site r.operation ≡ Some site → (eff : Effect) → Does hosts algorithms t (Inform m r site s) eff
+  informs : (r : Content) (site : List ℕ) → SpellsRequest speech.wire m.message r → response_of r.operation ≡ None → told_site speech.site r.operation ≡ Some site → is_denied speech.takes_changes r.operation ≡ false → (eff : Effect) → Does hosts algorithms t (Inform m r site s) eff
       → Moved speech hosts algorithms t s p m eff
-  informs r site spells is told eff does =
+  informs r site spells is told allowed eff does =
       replied (Inform m r site (with_partials s p)) Sha1 r (site_decision Sha1 r site) s (with_partials s p) eff
-      (Some r, spells, subst (λ x. IsRequestTask speech (with_partials s p) m r x (Inform m r site (with_partials s p))) (sym is) (ap (ask_task (with_partials s p) m r) (sym told))) refl refl does refl
+      (Some r, spells, subst (λ x. IsRequestTask speech (with_partials s p) m r x (Inform m r site (with_partials s p))) (sym is) (asks r (Some site) told allowed)) refl refl does refl
+
+  denies : (r : Content) → SpellsRequest speech.wire m.message r → response_of r.operation ≡ None → is_denied speech.takes_changes r.operation ≡ true → (eff : Effect) → Does hosts algorithms t (Deny m r s) eff → Moved speech hosts algorithms t s p m eff
+  denies r spells is never eff does =
+      replied (Deny m r (with_partials s p)) (request_algorithm algorithms r) r (failure 5 Empty) s (with_partials s p) eff (
+        Some r,
+        spells,
+        subst (λ x. IsRequestTask speech (with_partials s p) m r x (Deny m r (with_partials s p))) (sym is)
+            (λ i. cond {A = Task} (sym never i) (Deny m r (with_partials s p)) (ask_task (with_partials s p) m r (told_site speech.site r.operation))),
+      )
+      refl refl does refl
 
   found : (r : Content) (a : Response) (c : Pending) (o : Option Content) → SpellsRequest speech.wire m.message r → response_of r.operation ≡ Some a → challenge_of s.challenges.challenges m.peer m.envelope.session ≡ Some c
-      → IsReading (SpellsRequest speech.wire c.message) o → IsMessageTask speech (with_partials s p) m (redeem_task (with_partials s p) m a c o)
+      → IsReading (SpellsRequest speech.wire c.message) o → IsMessageTask speech (with_partials s p) m (redeem_task speech.takes_changes (with_partials s p) m a c o)
   found r a c o spells is there reading = (
     Some r,
     spells,
-    subst (λ x. IsRequestTask speech (with_partials s p) m r x (redeem_task (with_partials s p) m a c o)) (sym is)
-        (subst (λ x. IsResponseTask speech.wire (with_partials s p) m r a x (redeem_task (with_partials s p) m a c o)) (sym there) (o, reading, refl)),
+    subst (λ x. IsRequestTask speech (with_partials s p) m r x (redeem_task speech.takes_changes (with_partials s p) m a c o)) (sym is)
+        (subst (λ x. IsResponseTask speech (with_partials s p) m r a x (redeem_task speech.takes_changes (with_partials s p) m a c o)) (sym there) (o, reading, refl)),
   )
 
   redeems : (r : Content) (a : Response) (c : Pending) (o : Option Content) → SpellsRequest speech.wire m.message r → response_of r.operation ≡ Some a → challenge_of s.challenges.challenges m.peer m.envelope.session ≡ Some c
-      → IsReading (SpellsRequest speech.wire c.message) o → (eff : Effect) → Does hosts algorithms t (redeem_task s m a c o) eff → Moved speech hosts algorithms t s p m eff
+      → IsReading (SpellsRequest speech.wire c.message) o → (eff : Effect) → Does hosts algorithms t (redeem_task speech.takes_changes s m a c o) eff → Moved speech hosts algorithms t s p m eff
   redeems r a c None spells is there reading eff does = record {
     task = Malformed m (without_challenge (with_partials s p) m);
     is_task = found r a c None spells is there reading;
@@ -128,30 +142,44 @@ module _ (speech : Speech) (hosts : List ℕ → Bool) (algorithms : List ℕ �
     change = sym (ap (λ (e : Effect). e.change) does);
     same = ap (λ (e : Effect). e.state.partials) does;
   }
-  redeems r a c (Some q) spells is there reading eff does = by_time (is_late m c) refl does
+  redeems r a c (Some q) spells is there reading eff does = by_denial (is_denied speech.takes_changes q.operation) refl does
     where
-      by_time : (b : Bool) → is_late m c ≡ b → Does hosts algorithms t (cond b (Late m q (algorithm_of c.digest) (without_challenge s m)) (Redeem m q (record { response = a; nonce = c.nonce; digest = c.digest }) (without_challenge s m))) eff → Moved speech hosts algorithms t s p m eff
-      by_time true late does =
-          replied (redeem_task (with_partials s p) m a c (Some q)) (algorithm_of c.digest) q (failure 405 Empty) (without_challenge s m) (without_challenge (with_partials s p) m) eff (found r a c (Some q) spells is there reading) refl refl does
+      answers : (b : Bool) → is_denied speech.takes_changes q.operation ≡ b → (g : Algorithm) (d : Decision) → eff ≡ answer_effect g (without_challenge s m) m q d
+          → Does hosts algorithms t (cond {A = Task} b (Deny m q (without_challenge (with_partials s p) m)) (due_task (without_challenge (with_partials s p) m) m a c q)) (answer_effect g (without_challenge (with_partials s p) m) m q d) → Moved speech hosts algorithms t s p m eff
+      answers b e g d same done =
+          replied (redeem_task speech.takes_changes (with_partials s p) m a c (Some q)) g q d (without_challenge s m) (without_challenge (with_partials s p) m) eff (found r a c (Some q) spells is there reading) refl refl same
+          (subst (λ x. Does hosts algorithms t (cond {A = Task} x (Deny m q (without_challenge (with_partials s p) m)) (due_task (without_challenge (with_partials s p) m) m a c q)) (answer_effect g (without_challenge (with_partials s p) m) m q d)) (sym e) done)
+
+      by_time : (b : Bool) → is_denied speech.takes_changes q.operation ≡ false → is_late m c ≡ b → Does hosts algorithms t (cond b (Late m q (algorithm_of c.digest) (without_challenge s m)) (Redeem m q (record { response = a; nonce = c.nonce; digest = c.digest }) (without_challenge s m))) eff → Moved speech hosts algorithms t s p m eff
+      by_time true allowed late does =
+          answers false allowed (algorithm_of c.digest) (failure 405 Empty) does
           (subst (λ b. Does hosts algorithms t (cond b (Late m q (algorithm_of c.digest) (without_challenge (with_partials s p) m)) (Redeem m q (record { response = a; nonce = c.nonce; digest = c.digest }) (without_challenge (with_partials s p) m))) (answer_effect (algorithm_of c.digest) (without_challenge (with_partials s p) m) m q (failure 405 Empty))) (sym late) refl)
-      by_time false late (d, decides, does) =
-          replied (redeem_task (with_partials s p) m a c (Some q)) (algorithm_of c.digest) q d (without_challenge s m) (without_challenge (with_partials s p) m) eff (found r a c (Some q) spells is there reading) refl refl does
+      by_time false allowed late (d, decides, does) =
+          answers false allowed (algorithm_of c.digest) d does
           (subst (λ b. Does hosts algorithms t (cond b (Late m q (algorithm_of c.digest) (without_challenge (with_partials s p) m)) (Redeem m q (record { response = a; nonce = c.nonce; digest = c.digest }) (without_challenge (with_partials s p) m))) (answer_effect (algorithm_of c.digest) (without_challenge (with_partials s p) m) m q d)) (sym late) (d, decides, refl))
 
+      by_denial : (b : Bool) → is_denied speech.takes_changes q.operation ≡ b → Does hosts algorithms t (cond {A = Task} b (Deny m q (without_challenge s m)) (due_task (without_challenge s m) m a c q)) eff → Moved speech hosts algorithms t s p m eff
+      by_denial true e does = answers true e (request_algorithm algorithms q) (failure 5 Empty) does refl
+      by_denial false e does = by_time (is_late m c) e refl does
+
   responded : (r : Content) (a : Response) (o : Option Pending) (k : Task) → SpellsRequest speech.wire m.message r → response_of r.operation ≡ Some a → challenge_of s.challenges.challenges m.peer m.envelope.session ≡ o
-      → IsResponseTask speech.wire s m r a o k → (eff : Effect) → Does hosts algorithms t k eff → Moved speech hosts algorithms t s p m eff
+      → IsResponseTask speech s m r a o k → (eff : Effect) → Does hosts algorithms t k eff → Moved speech hosts algorithms t s p m eff
   responded r a None k spells is there task eff does =
       replied (Unknown m r (with_partials s p)) Sha1 r (failure 4 Empty) s (with_partials s p) eff
-      (Some r, spells, subst (λ x. IsRequestTask speech (with_partials s p) m r x (Unknown m r (with_partials s p))) (sym is) (subst (λ x. IsResponseTask speech.wire (with_partials s p) m r a x (Unknown m r (with_partials s p))) (sym there) refl))
+      (Some r, spells, subst (λ x. IsRequestTask speech (with_partials s p) m r x (Unknown m r (with_partials s p))) (sym is) (subst (λ x. IsResponseTask speech (with_partials s p) m r a x (Unknown m r (with_partials s p))) (sym there) refl))
       refl refl (subst (λ x. Does hosts algorithms t x eff) task does) refl
   responded r a (Some c) k spells is there (o, reading, task) eff does = redeems r a c o spells is there reading eff (subst (λ x. Does hosts algorithms t x eff) task does)
 
   requested : (r : Content) (o : Option Response) (k : Task) → SpellsRequest speech.wire m.message r → response_of r.operation ≡ o → IsRequestTask speech s m r o k → (eff : Effect) → Does hosts algorithms t k eff → Moved speech hosts algorithms t s p m eff
-  requested r None k spells is task eff does = by (told_site speech.site r.operation) refl (subst (λ x. Does hosts algorithms t x eff) task does)
+  requested r None k spells is task eff does = by_denial (is_denied speech.takes_changes r.operation) refl (subst (λ x. Does hosts algorithms t x eff) task does)
     where
-      by : (o : Option (List ℕ)) → told_site speech.site r.operation ≡ o → Does hosts algorithms t (ask_task s m r o) eff → Moved speech hosts algorithms t s p m eff
-      by None told does = asked r spells is told eff does
-      by (Some site) told does = informs r site spells is told eff does
+      by : (o : Option (List ℕ)) → told_site speech.site r.operation ≡ o → is_denied speech.takes_changes r.operation ≡ false → Does hosts algorithms t (ask_task s m r o) eff → Moved speech hosts algorithms t s p m eff
+      by None told allowed does = asked r spells is told allowed eff does
+      by (Some site) told allowed does = informs r site spells is told allowed eff does
+
+      by_denial : (b : Bool) → is_denied speech.takes_changes r.operation ≡ b → Does hosts algorithms t (cond {A = Task} b (Deny m r s) (ask_task s m r (told_site speech.site r.operation))) eff → Moved speech hosts algorithms t s p m eff
+      by_denial true e does = denies r spells is e eff does
+      by_denial false e does = by (told_site speech.site r.operation) refl e does
   requested r (Some a) k spells is task eff does = responded r a (challenge_of s.challenges.challenges m.peer m.envelope.session) k spells is refl task eff does
 
   moved : (k : Task) → IsMessageTask speech s m k → (eff : Effect) → Does hosts algorithms t k eff → Moved speech hosts algorithms t s p m eff

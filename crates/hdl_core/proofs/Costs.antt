@@ -1,5 +1,5 @@
 -- What events and runs read.
-use Rattle.std.proofs.Common.{◌≡◌, ◌≤◌, ◌<◌, ◌+◌, ◌*◌, ℕ, suc, false, List, [], ◌∷◌, ◌++◌, Some, None, length, sym, subst, ◌∙◌, arith}
+use Rattle.std.proofs.Common.{◌≡◌, ◌≤◌, ◌<◌, ◌+◌, ◌*◌, ℕ, suc, false, Bool, List, [], ◌∷◌, ◌++◌, Some, None, length, sym, subst, ◌∙◌, arith}
 use Rattle.std.proofs.Math.Nat.{suc-mul}
 use Rattle.std.proofs.lemmas.List.{map-append, length-append}
 use Rattle.hdl_rows.specs.Table.{Table}
@@ -41,11 +41,11 @@ none_found lanes lane peer number p found none = some_is_some p (found ∙ none 
 
 -- ---- what is read of the table is read of the world's
 
-pub in_world : (r : Register) (lanes : List Held) (t : Table) (cost : Most → ℕ) (x y : ℕ) → ReadsWithin t cost x y → ReadsWithin (world_of r lanes t).table cost x y
-in_world r lanes t cost x y read = subst (λ (u : Table). ReadsWithin u cost x y) (sym (table_of_world r lanes t)) read
+pub in_world : (r : Register) (b : Bool) (lanes : List Held) (t : Table) (cost : Most → ℕ) (x y : ℕ) → ReadsWithin t cost x y → ReadsWithin (world_of r b lanes t).table cost x y
+in_world r b lanes t cost x y read = subst (λ (u : Table). ReadsWithin u cost x y) (sym (table_of_world r b lanes t)) read
 
-pub stranger_here : (r : Register) (lanes : List Held) (t : Table) (e : Event) → e.lane < length lanes → IsStranger (lane_of (world_of r lanes t) e.lane) e.what → IsStranger (state_at lanes e.lane) e.what
-stranger_here r lanes t e h is = subst (λ (s : LaneState). IsStranger s e.what) (lane_here r lanes t e.lane (record { publisher = 0; state = fresh false }) h) is
+pub stranger_here : (r : Register) (b : Bool) (lanes : List Held) (t : Table) (e : Event) → e.lane < length lanes → IsStranger (lane_of (world_of r b lanes t) e.lane) e.what → IsStranger (state_at lanes e.lane) e.what
+stranger_here r b lanes t e h is = subst (λ (s : LaneState). IsStranger s e.what) (lane_here r b lanes t e.lane (record { publisher = 0; state = fresh false }) h) is
 
 -- ---- runs
 

@@ -28,13 +28,13 @@ use Rattle.hdl_ops.proofs.SiteDecisions.{site_announced, site_changes_nothing}
 use Rattle.hdl_ops.specs.Views.{decision_of, hosted_by}
 use Rattle.hdl_events.specs.declared.Outcome.TheVariants.{Reply}
 use Rattle.hdl_laws.specs.Lanes.{LaneState}
-use Rattle.hdl_laws.specs.Tasks.{Task, Malformed, Unknown, Late, Ask, Inform, Redeem, told_site, ask_task, is_late, without_challenge, redeem_task, IsResponseTask, IsRequestTask, IsMessageTask}
+use Rattle.hdl_laws.specs.Tasks.{Task, Malformed, Unknown, Late, Deny, Ask, Inform, Redeem, told_site, ask_task, request_task, is_denied, is_late, without_challenge, due_task, redeem_task, IsResponseTask, IsRequestTask, IsMessageTask}
 use Rattle.hdl_laws.specs.Effects.{answer_octets, challenge_octets, Effect, pending, answer_effect, challenge_effect, Does}
 use Rattle.hdl_core.specs.declared.origin.Origin.{Origin}
 use Rattle.hdl_core.specs.declared.hearing.Heard.{Heard}
 use Rattle.hdl_core.specs.declared.hearing.Heard.TheVariants.{Answered, Challenged}
 use Rattle.hdl_core.specs.Held.{Held, state_at, with_state}
-use Rattle.hdl_core.specs.Serving.{Context, Scene, message_as, IsHeardForAnyone, IsInformed, Replies, IsRedeemed, RespondsAt, HearsAt}
+use Rattle.hdl_core.specs.Serving.{Context, Scene, message_as, IsDenied, IsHeardForAnyone, IsInformed, Replies, IsRedeemed, RespondsAt, HearsAt}
 use Rattle.hdl_core.proofs.HeldLanes.{kept}
 
 pub on_ok : {X E : Type 0} (r : Result X E) (P S : X → Type 0) → ((x : X) → P x → S x) → IfOk r P → IfOk r S
@@ -102,28 +102,43 @@ module _ (speech : Speech) (hosts : List ℕ → Bool) (algorithms : List ℕ �
 
   -- ---- a challenge response
 
+  let_through : (a : Response) (p : Pending) (r : Content) (s' : LaneState) (message octets : List ℕ) (t' : Table) → false ≡ is_denied speech.takes_changes r.operation → Replies context m.moment (due_task s' (message_as m message) a p r) octets s' t'
+      → Replies context m.moment (cond {A = Task} (is_denied speech.takes_changes r.operation) (Deny (message_as m message) r s') (due_task s' (message_as m message) a p r)) octets s' t'
+  let_through a p r s' message octets t' allowed replies =
+      subst (λ b. Replies context m.moment (cond {A = Task} b (Deny (message_as m message) r s') (due_task s' (message_as m message) a p r)) octets s' t') allowed replies
+
+  pub denied_later : (a : Response) (p : Pending) (r : Content) (octets : List ℕ) → SpellsRequest speech.wire p.message r → true ≡ is_denied speech.takes_changes r.operation → IsDenied algorithms m r octets → IsRedeemed context m a p octets t
+  denied_later a p r octets spells denied is = λ s message.
+      let s' = without_challenge s (message_as m message) in (
+        Some r,
+        spells,
+        subst (λ b. Replies context m.moment (cond {A = Task} b (Deny (message_as m message) r s') (due_task s' (message_as m message) a p r)) octets s' t) denied
+            (told (Deny (message_as m message) r s') (request_algorithm algorithms r) r 5 s' message octets refl is),
+      )
+
   pub unreadable : (a : Response) (p : Pending) (octets : List ℕ) → ((r : Content) → SpellsRequest speech.wire p.message r → ⊥) → octets ≡ short_reply 4 m.envelope → IsRedeemed context m a p octets t
   unreadable a p octets none is = λ s message. (None, none, garbled (without_challenge s (message_as m message)) message octets is)
 
-  pub late : (a : Response) (p : Pending) (r : Content) (g : Algorithm) (octets : List ℕ) → g ≡ algorithm_of p.digest → SpellsRequest speech.wire p.message r → ((message : List ℕ) → true ≡ is_late (message_as m message) p) → IsTold g m r 405 octets → IsRedeemed context m a p octets t
-  late a p r g octets hash spells after is = λ s message.
+  pub late : (a : Response) (p : Pending) (r : Content) (g : Algorithm) (octets : List ℕ) → g ≡ algorithm_of p.digest → SpellsRequest speech.wire p.message r → false ≡ is_denied speech.takes_changes r.operation → ((message : List ℕ) → true ≡ is_late (message_as m message) p) → IsTold g m r 405 octets
+      → IsRedeemed context m a p octets t
+  late a p r g octets hash spells allowed after is = λ s message.
       let s' = without_challenge s (message_as m message) in
       let proof : Proof = record { response = a; nonce = p.nonce; digest = p.digest } in (
         Some r,
         spells,
-        subst (λ b. Replies context m.moment (cond b (Late (message_as m message) r (algorithm_of p.digest) s') (Redeem (message_as m message) r proof s')) octets s' t) (after message) (told (Late (message_as m message) r (algorithm_of p.digest) s') (algorithm_of p.digest) r 405 s' message octets refl (subst (λ h. IsTold h m r 405 octets) hash is)),
+        let_through a p r s' message octets t allowed (subst (λ b. Replies context m.moment (cond b (Late (message_as m message) r (algorithm_of p.digest) s') (Redeem (message_as m message) r proof s')) octets s' t) (after message) (told (Late (message_as m message) r (algorithm_of p.digest) s') (algorithm_of p.digest) r 405 s' message octets refl (subst (λ h. IsTold h m r 405 octets) hash is))),
       )
 
-  pub proven : (a : Response) (p : Pending) (r : Content) (g : Algorithm) (d : Decision) (octets : List ℕ) (t' : Table) → g ≡ algorithm_of p.digest → SpellsRequest speech.wire p.message r → ((message : List ℕ) → false ≡ is_late (message_as m message) p)
+  pub proven : (a : Response) (p : Pending) (r : Content) (g : Algorithm) (d : Decision) (octets : List ℕ) (t' : Table) → g ≡ algorithm_of p.digest → SpellsRequest speech.wire p.message r → false ≡ is_denied speech.takes_changes r.operation → ((message : List ℕ) → false ≡ is_late (message_as m message) p)
       → Decides hosts g t r (Proven (record { response = a; nonce = p.nonce; digest = p.digest })) d → octets ≡ answer_octets g m.moment m.envelope r d.code d.content → t' ≡ apply_if t m.moment d.change
       → IsRedeemed context m a p octets t'
-  proven a p r g d octets t' hash spells in_time decided is table = λ s message.
+  proven a p r g d octets t' hash spells allowed in_time decided is table = λ s message.
       let s' = without_challenge s (message_as m message) in
       let proof : Proof = record { response = a; nonce = p.nonce; digest = p.digest } in (
         Some r,
         spells,
-        subst (λ b. Replies context m.moment (cond b (Late (message_as m message) r (algorithm_of p.digest) s') (Redeem (message_as m message) r proof s')) octets s' t') (in_time message)
-            (answer_effect (algorithm_of p.digest) s' (message_as m message) r d, (d, subst (λ h. Decides hosts h t r (Proven proof) d) hash decided, refl), ap Reply (sym (subst (λ h. octets ≡ answer_octets h m.moment m.envelope r d.code d.content) hash is)), refl, table),
+        let_through a p r s' message octets t' allowed (subst (λ b. Replies context m.moment (cond b (Late (message_as m message) r (algorithm_of p.digest) s') (Redeem (message_as m message) r proof s')) octets s' t') (in_time message)
+            (answer_effect (algorithm_of p.digest) s' (message_as m message) r d, (d, subst (λ h. Decides hosts h t r (Proven proof) d) hash decided, refl), ap Reply (sym (subst (λ h. octets ≡ answer_octets h m.moment m.envelope r d.code d.content) hash is)), refl, table)),
       )
 
   module _ (lanes : List Held) (number : ℕ) where
@@ -138,7 +153,7 @@ module _ (speech : Speech) (hosts : List ℕ → Bool) (algorithms : List ℕ �
       state_at lanes number,
       kept lanes number,
       Unknown (message_as m message) r (state_at lanes number),
-      subst (λ o. IsResponseTask speech.wire (state_at lanes number) (message_as m message) r a o (Unknown (message_as m message) r (state_at lanes number))) none refl,
+      subst (λ o. IsResponseTask speech (state_at lanes number) (message_as m message) r a o (Unknown (message_as m message) r (state_at lanes number))) none refl,
       told (Unknown (message_as m message) r (state_at lanes number)) Sha1 r 4 (state_at lanes number) message octets refl is,
     )
 
@@ -146,11 +161,11 @@ module _ (speech : Speech) (hosts : List ℕ → Bool) (algorithms : List ℕ �
         → IsRedeemed context m a p octets t' → lanes' ≡ with_state lanes number (without_challenge (state_at lanes number) (message_as m [])) → RespondsAt scene number (record { origin = m; request = r; response = a }) octets lanes' t'
     known r a p octets lanes' t' found redeem spent = λ message.
         let done = redeem (state_at lanes number) message in
-        let k = redeem_task (state_at lanes number) (message_as m message) a p done.0 in (
+        let k = redeem_task speech.takes_changes (state_at lanes number) (message_as m message) a p done.0 in (
           without_challenge (state_at lanes number) (message_as m message),
           spent,
           k,
-          subst (λ o. IsResponseTask speech.wire (state_at lanes number) (message_as m message) r a o k) found (done.0, done.1, refl),
+          subst (λ o. IsResponseTask speech (state_at lanes number) (message_as m message) r a o k) found (done.0, done.1, refl),
           done.2,
         )
 
@@ -166,12 +181,17 @@ module _ (speech : Speech) (hosts : List ℕ → Bool) (algorithms : List ℕ �
         let done = responds message in
         (done.0, done.1, (done.2, (Some r, spells, subst (λ o. IsRequestTask speech (state_at lanes number) (message_as m message) r o done.2) is done.3), done.4))
 
-    asking : (message : List ℕ) (r : Content) → SpellsRequest speech.wire message r → None ≡ response_of r.operation → None ≡ told_site speech.site r.operation → IsMessageTask speech (state_at lanes number) (message_as m message) (Ask (message_as m message) r (state_at lanes number))
-    asking message r spells is told = (Some r, spells, subst (λ o. IsRequestTask speech (state_at lanes number) (message_as m message) r o (Ask (message_as m message) r (state_at lanes number))) is (ap (ask_task (state_at lanes number) (message_as m message) r) told))
+    -- a request that isn't denied
+    asks : (message : List ℕ) (r : Content) (o : Option (List ℕ)) → o ≡ told_site speech.site r.operation → false ≡ is_denied speech.takes_changes r.operation
+        → ask_task (state_at lanes number) (message_as m message) r o ≡ request_task speech (state_at lanes number) (message_as m message) r
+    asks message r o told allowed = λ i. cond {A = Task} (allowed i) (Deny (message_as m message) r (state_at lanes number)) (ask_task (state_at lanes number) (message_as m message) r (told i))
 
-    pub answered : (message : List ℕ) (r : Content) (octets : List ℕ) (t' : Table) (asked : Heard) (next : ℕ) → SpellsRequest speech.wire message r → None ≡ response_of r.operation → None ≡ told_site speech.site r.operation → asked ≡ Answered octets
+    asking : (message : List ℕ) (r : Content) → SpellsRequest speech.wire message r → None ≡ response_of r.operation → None ≡ told_site speech.site r.operation → false ≡ is_denied speech.takes_changes r.operation → IsMessageTask speech (state_at lanes number) (message_as m message) (Ask (message_as m message) r (state_at lanes number))
+    asking message r spells is told allowed = (Some r, spells, subst (λ o. IsRequestTask speech (state_at lanes number) (message_as m message) r o (Ask (message_as m message) r (state_at lanes number))) is (asks message r None told allowed))
+
+    pub answered : (message : List ℕ) (r : Content) (octets : List ℕ) (t' : Table) (asked : Heard) (next : ℕ) → SpellsRequest speech.wire message r → None ≡ response_of r.operation → None ≡ told_site speech.site r.operation → false ≡ is_denied speech.takes_changes r.operation → asked ≡ Answered octets
         → IsHeardForAnyone context m next r asked t' → HearsAt scene number (message_as m message) octets lanes t'
-    answered message r octets t' asked next spells is told same done =
+    answered message r octets t' asked next spells is told allowed same done =
         let d = subst (λ (x : Heard). IsHeardForAnyone context m next r x t') same done in
         let m' = message_as m message in
         let here = state_at lanes number in (
@@ -179,30 +199,48 @@ module _ (speech : Speech) (hosts : List ℕ → Bool) (algorithms : List ℕ �
           kept lanes number,
           (
             Ask m' r here,
-            asking message r spells is told,
+            asking message r spells is told allowed,
             (answer_effect (request_algorithm algorithms r) here m' r d.0, (d.0, d.1, ap (λ b. cond {A = Effect} b (challenge_effect (request_algorithm algorithms r) here m' r) (answer_effect (request_algorithm algorithms r) here m' r d.0)) (sym d.2)), ap Reply (sym d.3), refl, d.4),
           ),
         )
 
-    pub informed : (message octets site : List ℕ) (r : Content) → SpellsRequest speech.wire message r → None ≡ response_of r.operation → Some site ≡ told_site speech.site r.operation → IsInformed m r site octets
+    pub denied : (message octets : List ℕ) (r : Content) → SpellsRequest speech.wire message r → None ≡ response_of r.operation → true ≡ is_denied speech.takes_changes r.operation → IsDenied algorithms m r octets → HearsAt scene number (message_as m message) octets lanes t
+    denied message octets r spells is never same =
+        let m' = message_as m message in
+        let here = state_at lanes number in (
+          here,
+          kept lanes number,
+          (
+            Deny m' r here,
+            (
+              Some r,
+              spells,
+              subst (λ o. IsRequestTask speech here m' r o (Deny m' r here)) is
+                  (λ i. cond {A = Task} (never i) (Deny m' r here) (ask_task here m' r (told_site speech.site r.operation))),
+            ),
+            told (Deny m' r here) (request_algorithm algorithms r) r 5 here message octets refl same,
+          ),
+        )
+
+    pub informed : (message octets site : List ℕ) (r : Content) → SpellsRequest speech.wire message r → None ≡ response_of r.operation → Some site ≡ told_site speech.site r.operation → false ≡ is_denied speech.takes_changes r.operation → IsInformed m r site octets
         → HearsAt scene number (message_as m message) octets lanes t
-    informed message octets site r spells is told same =
+    informed message octets site r spells is told allowed same =
         let m' = message_as m message in
         let here = state_at lanes number in (
           here,
           kept lanes number,
           (
             Inform m' r site here,
-            (Some r, spells, subst (λ o. IsRequestTask speech here m' r o (Inform m' r site here)) is (ap (ask_task here m' r) told)),
+            (Some r, spells, subst (λ o. IsRequestTask speech here m' r o (Inform m' r site here)) is (asks message r (Some site) told allowed)),
             (answer_effect Sha1 here m' r (site_decision Sha1 r site), refl, ap Reply (sym same), refl, sym (ap (apply_if t m.moment) (site_changes_nothing Sha1 r site))),
           ),
         )
 
-    pub challenges : (message : List ℕ) (r : Content) (octets : List ℕ) (digest : Digest) (t' : Table) (lanes' : List Held) (asked : Heard) (next : ℕ) → SpellsRequest speech.wire message r → None ≡ response_of r.operation → None ≡ told_site speech.site r.operation → asked ≡ Challenged octets digest
+    pub challenges : (message : List ℕ) (r : Content) (octets : List ℕ) (digest : Digest) (t' : Table) (lanes' : List Held) (asked : Heard) (next : ℕ) → SpellsRequest speech.wire message r → None ≡ response_of r.operation → None ≡ told_site speech.site r.operation → false ≡ is_denied speech.takes_changes r.operation → asked ≡ Challenged octets digest
         → next ≡ (state_at lanes number).challenges.next → IsHeardForAnyone context m next r asked t'
         → lanes' ≡ with_state lanes number (record { is_open = (state_at lanes number).is_open; partials = (state_at lanes number).partials; challenges = add_challenge (state_at lanes number).challenges (record { peer = m.peer; moment = m.moment; nonce = m.nonce; digest = digest; message = message }) })
         → HearsAt scene number (message_as m message) octets lanes' t'
-    challenges message r octets digest t' lanes' asked next spells is told same numbered done put =
+    challenges message r octets digest t' lanes' asked next spells is told allowed same numbered done put =
         let d = subst (λ (x : Heard). IsHeardForAnyone context m next r x t') same done in
         let m' = message_as m message in
         let here = state_at lanes number in
@@ -211,7 +249,7 @@ module _ (speech : Speech) (hosts : List ℕ → Bool) (algorithms : List ℕ �
           put ∙ ap (λ (x : Digest). with_state lanes number (record { is_open = here.is_open; partials = here.partials; challenges = add_challenge here.challenges (record { peer = m.peer; moment = m.moment; nonce = m.nonce; digest = x; message = message }) })) d.4,
           (
             Ask m' r here,
-            asking message r spells is told,
+            asking message r spells is told allowed,
             (
               challenge_effect (request_algorithm algorithms r) here m' r,
               (d.0, d.1, ap (λ b. cond {A = Effect} b (challenge_effect (request_algorithm algorithms r) here m' r) (answer_effect (request_algorithm algorithms r) here m' r d.0)) (sym d.2)),

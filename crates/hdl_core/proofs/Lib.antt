@@ -1,3 +1,4 @@
+pub mod Fits
 pub mod HeldLanes
 pub mod Heard
 pub mod Assembled

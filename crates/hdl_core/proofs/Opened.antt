@@ -17,7 +17,7 @@ use Rattle.hdl_rows.specs.Table.{Table, has, at, with_new_handle, with_values}
 use Rattle.hdl_tenants.specs.Register as register
 use Rattle.hdl_tenants.specs.Register.{Register, Publisher, Row, place, lane_count, owner_among, AreDistinct, IsRegister}
 use Rattle.hdl_laws.specs.Lanes.{fresh}
-use Rattle.hdl_laws.specs.Worlds.{owner, lane_of}
+use Rattle.hdl_laws.specs.Worlds.{owner, lane_of, read_only}
 use Rattle.hdl_core.specs.declared.lane.Lane.{Lane}
 use Rattle.hdl_core.specs.Held.{Held, held_lane}
 use Rattle.hdl_core.specs.Worlds.{world_of}
@@ -146,56 +146,67 @@ module _ (r : Register) (t : Table) where
   none : (l : ℕ) → count ≤ l → slice_get lanes l ≡ None
   none l past = within_map (first_lanes r count) l ∙ ap (option_map (λ (x : Lane). held_lane x [] slots.fresh)) (lane_past r count l past)
 
-  owners : (l : ℕ) → owner (world_of r lanes t).site l ≡ register.owner r l
-  owners l = owner_of r lanes t l ∙ elim (cases_lt l count) [
+  owners : (l : ℕ) → owner (world_of r true lanes t).site l ≡ register.owner r l
+  owners l = owner_of r true lanes t l ∙ elim (cases_lt l count) [
     | inl within ↦
         let u = owner_within r.publishers l within in
         ap (option_map (λ (x : Held). x.publisher)) (there l within) ∙ ap (λ (o : Option ℕ). Some (unwrap_or o 0)) u.1 ∙ sym u.1
     | inr past ↦ ap (option_map (λ (x : Held). x.publisher)) (none l past) ∙ sym (owner_past r.publishers l past)
   ]
 
-  all_closed : (l : ℕ) → lane_of (world_of r lanes t) l ≡ fresh false
-  all_closed l = lane_of_world r lanes t l ∙ elim (cases_lt l count) [
+  all_closed : (l : ℕ) → lane_of (world_of r true lanes t) l ≡ fresh false
+  all_closed l = lane_of_world r true lanes t l ∙ elim (cases_lt l count) [
     | inl within ↦ ap (λ (o : Option Held). unwrap_or (option_map (λ (x : Held). x.state) o) (fresh false)) (there l within)
     | inr past ↦ ap (λ (o : Option Held). unwrap_or (option_map (λ (x : Held). x.state) o) (fresh false)) (none l past)
   ]
 
-  hosted : (world_of r lanes t).site.hostings ≡ r.hostings
+  hosted : (world_of r true lanes t).site.hostings ≡ r.hostings
   unfolding world_of
   hosted = refl
 
-  site_infos : (world_of r lanes t).site.sites ≡ r.sites
+  site_infos : (world_of r true lanes t).site.sites ≡ r.sites
   unfolding world_of
   site_infos = refl
 
-  held_table : (world_of r lanes t).table ≡ t
+  taken : (world_of r true lanes t).site.takes_changes ≡ true
+  unfolding world_of
+  taken = refl
+
+  held_table : (world_of r true lanes t).table ≡ t
   unfolding world_of
   held_table = refl
 
-  pub opens : (all : List Held) → all ≡ closed_lanes (first_lanes r (lane_count r.publishers)) → t ≡ opening_table r.opening → IsOpening r (world_of r all t)
-  opens all same rows = subst (λ (ls : List Held). IsOpening r (world_of r ls t)) (sym same) (record {
+  pub opens : (all : List Held) → all ≡ closed_lanes (first_lanes r (lane_count r.publishers)) → t ≡ opening_table r.opening → IsOpening r (world_of r true all t)
+  opens all same rows = subst (λ (ls : List Held). IsOpening r (world_of r true ls t)) (sym same) (record {
     owners = owners;
     hostings = hosted;
-    layouts = λ publisher. sym (layout_of r lanes t publisher);
+    layouts = λ publisher. sym (layout_of r true lanes t publisher);
     sites = site_infos;
+    takes_changes = taken;
     closed = all_closed;
     table = held_table ∙ rows;
   })
 
-  pub resumes : (all : List Held) → all ≡ closed_lanes (first_lanes r (lane_count r.publishers)) → IsResumed r t (world_of r all t)
-  resumes all same = subst (λ (ls : List Held). IsResumed r t (world_of r ls t)) (sym same) (record {
+  pub resumes : (all : List Held) → all ≡ closed_lanes (first_lanes r (lane_count r.publishers)) → IsResumed r t (world_of r true all t)
+  resumes all same = subst (λ (ls : List Held). IsResumed r t (world_of r true ls t)) (sym same) (record {
     owners = owners;
     hostings = hosted;
-    layouts = λ publisher. sym (layout_of r lanes t publisher);
+    layouts = λ publisher. sym (layout_of r true lanes t publisher);
     sites = site_infos;
+    takes_changes = taken;
     closed = all_closed;
     table = held_table;
   })
 
 -- the table of a world
-pub table_of_world : (r : Register) (all : List Held) (t : Table) → (world_of r all t).table ≡ t
+pub table_of_world : (r : Register) (b : Bool) (all : List Held) (t : Table) → (world_of r b all t).table ≡ t
 unfolding world_of
-table_of_world r all t = refl
+table_of_world r b all t = refl
+
+-- the world that takes no changes
+pub world_read_only : (r : Register) (b : Bool) (all : List Held) (t : Table) → world_of r false all t ≡ read_only (world_of r b all t)
+unfolding world_of
+world_read_only r b all t = refl
 
 -- a register has few lanes
 pub few_lanes : (r : Register) (lanes : List Lane) → IsRegister r → lanes ≡ first_lanes r (lane_count r.publishers) → length lanes ≤ 64

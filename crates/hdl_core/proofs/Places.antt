@@ -1,5 +1,5 @@
 -- Maps of the elements of a list by their places, and the world of a service.
-use Rattle.std.proofs.Common.{◌≡◌, ℕ, zero, suc, ◌+◌, ◌<◌, List, [], ◌∷◌, true, false, cond, ◌==◌, Some, map, length, set, refl, sym, ap, ◌∙◌, subst, option_map, arith, nat_cmp, unwrap_or, get_or, Option, None}
+use Rattle.std.proofs.Common.{◌≡◌, ℕ, zero, suc, ◌+◌, ◌<◌, Bool, List, [], ◌∷◌, true, false, cond, ◌==◌, Some, map, length, set, refl, sym, ap, ◌∙◌, subst, option_map, arith, nat_cmp, unwrap_or, get_or, Option, None}
 use Rattle.std.specs.Prelude.{slice_get}
 use Rattle.std.specs.Cmp.{nat_cmp_total, unsigned_tied}
 use Rattle.std.specs.FinMap as map
@@ -66,43 +66,47 @@ set_same xs l d h = Rattle.std.proofs.lemmas.List.set-get_or xs l d
 
 -- ---- the world of the lanes
 
-pub owner_of : (r : Register) (lanes : List Held) (t : Table) (l : ℕ) → owner (world_of r lanes t).site l ≡ option_map (λ (x : Held). x.publisher) (slice_get lanes l)
+pub owner_of : (r : Register) (b : Bool) (lanes : List Held) (t : Table) (l : ℕ) → owner (world_of r b lanes t).site l ≡ option_map (λ (x : Held). x.publisher) (slice_get lanes l)
 unfolding world_of
-owner_of r lanes t l = get-by_place (map (λ (x : Held). x.publisher) lanes) l ∙ slice_get-map _ lanes l
+owner_of r b lanes t l = get-by_place (map (λ (x : Held). x.publisher) lanes) l ∙ slice_get-map _ lanes l
 
 mapped_or : {X Y : Type 0} (f : X → Y) (o : Option X) (d : Y) → unwrap_or (option_map f o) d ≡ option_map_or f o d
 mapped_or f None d = refl
 mapped_or f (Some x) d = refl
 
-pub layout_of : (r : Register) (lanes : List Held) (t : Table) (u : ℕ) → wire r u ≡ layout (world_of r lanes t).site u
+pub layout_of : (r : Register) (b : Bool) (lanes : List Held) (t : Table) (u : ℕ) → wire r u ≡ layout (world_of r b lanes t).site u
 unfolding world_of
-layout_of r lanes t u =
+layout_of r b lanes t u =
     sym (mapped_or (λ (p : Publisher). p.wire) (slice_get r.publishers u) Profile)
     ∙ sym (ap (λ (o : Option Wire). unwrap_or o Profile) (get-by_place (map (λ (p : Publisher). p.wire) r.publishers) u ∙ slice_get-map (λ (p : Publisher). p.wire) r.publishers u))
 
 -- how the lanes of the publisher at this place speak
-abbrev pub register_speech : Register → ℕ → Speech
-register_speech r u = record { wire = wire r u; site = told_by (wire r u) (site r u) }
+abbrev pub register_speech : Register → Bool → ℕ → Speech
+register_speech r b u = record { wire = wire r u; site = told_by (wire r u) (site r u); takes_changes = b }
 
-sites_of : (r : Register) (lanes : List Held) (t : Table) (u : ℕ) → site r u ≡ site_among (world_of r lanes t).site.sites u
+sites_of : (r : Register) (b : Bool) (lanes : List Held) (t : Table) (u : ℕ) → site r u ≡ site_among (world_of r b lanes t).site.sites u
 unfolding world_of
-sites_of r lanes t u = refl
+sites_of r b lanes t u = refl
 
-pub speech_of : (r : Register) (lanes : List Held) (t : Table) (u : ℕ) → register_speech r u ≡ speech (world_of r lanes t).site u
-speech_of r lanes t u = λ i. record { wire = layout_of r lanes t u i; site = told_by (layout_of r lanes t u i) (sites_of r lanes t u i) }
-
-pub lane_of_world : (r : Register) (lanes : List Held) (t : Table) (l : ℕ) → lane_of (world_of r lanes t) l ≡ unwrap_or (option_map (λ (y : Held). y.state) (slice_get lanes l)) (fresh false)
+taken_in : (r : Register) (b : Bool) (lanes : List Held) (t : Table) → b ≡ (world_of r b lanes t).site.takes_changes
 unfolding world_of
-lane_of_world r lanes t l = ap (λ o. unwrap_or o (fresh false)) (get-by_place (map (λ (y : Held). y.state) lanes) l ∙ slice_get-map (λ (y : Held). y.state) lanes l)
+taken_in r b lanes t = refl
 
-pub lane_here : (r : Register) (lanes : List Held) (t : Table) (l : ℕ) (d : Held) → l < length lanes → lane_of (world_of r lanes t) l ≡ (get_or lanes l d).state
-lane_here r lanes t l d h = lane_of_world r lanes t l ∙ ap (λ o. unwrap_or (option_map (λ (y : Held). y.state) o) (fresh false)) (slice_get-get_or lanes l d h)
+pub speech_of : (r : Register) (b : Bool) (lanes : List Held) (t : Table) (u : ℕ) → register_speech r b u ≡ speech (world_of r b lanes t).site u
+speech_of r b lanes t u = λ i. record { wire = layout_of r b lanes t u i; site = told_by (layout_of r b lanes t u i) (sites_of r b lanes t u i); takes_changes = taken_in r b lanes t i }
+
+pub lane_of_world : (r : Register) (b : Bool) (lanes : List Held) (t : Table) (l : ℕ) → lane_of (world_of r b lanes t) l ≡ unwrap_or (option_map (λ (y : Held). y.state) (slice_get lanes l)) (fresh false)
+unfolding world_of
+lane_of_world r b lanes t l = ap (λ o. unwrap_or o (fresh false)) (get-by_place (map (λ (y : Held). y.state) lanes) l ∙ slice_get-map (λ (y : Held). y.state) lanes l)
+
+pub lane_here : (r : Register) (b : Bool) (lanes : List Held) (t : Table) (l : ℕ) (d : Held) → l < length lanes → lane_of (world_of r b lanes t) l ≡ (get_or lanes l d).state
+lane_here r b lanes t l d h = lane_of_world r b lanes t l ∙ ap (λ o. unwrap_or (option_map (λ (y : Held). y.state) o) (fresh false)) (slice_get-get_or lanes l d h)
 
 -- a lane that is written, with the table, is the effect
-pub world_after : (r : Register) (lanes : List Held) (t t' : Table) (e : Event) (x d : Held) (eff : Effect) → e.lane < length lanes → x.publisher ≡ (get_or lanes e.lane d).publisher → x.state ≡ eff.state → t' ≡ apply_if t (moment_of e.what) eff.change
-    → world_of r (set lanes e.lane x) t' ≡ after_effect (world_of r lanes t) e eff
+pub world_after : (r : Register) (b : Bool) (lanes : List Held) (t t' : Table) (e : Event) (x d : Held) (eff : Effect) → e.lane < length lanes → x.publisher ≡ (get_or lanes e.lane d).publisher → x.state ≡ eff.state → t' ≡ apply_if t (moment_of e.what) eff.change
+    → world_of r b (set lanes e.lane x) t' ≡ after_effect (world_of r b lanes t) e eff
 unfolding world_of
-world_after r lanes t t' e x d eff h same state table =
+world_after r b lanes t t' e x d eff h same state table =
     let owners : by_place (map (λ (y : Held). y.publisher) (set lanes e.lane x)) ≡ by_place (map (λ (y : Held). y.publisher) lanes) =
     ap by_place (map-set (λ (y : Held). y.publisher) lanes e.lane x
     ∙ ap (set (map (λ (y : Held). y.publisher) lanes) e.lane) same
@@ -112,4 +116,4 @@ world_after r lanes t t' e x d eff h same state table =
     ap by_place (map-set (λ (y : Held). y.state) lanes e.lane x)
     ∙ by_place-set (map (λ (y : Held). y.state) lanes) e.lane x.state (subst (λ n. e.lane < n) (sym (length-map lanes (λ (y : Held). y.state))) h)
     ∙ ap (map.insert (by_place (map (λ (y : Held). y.state) lanes)) e.lane) state in
-    λ i. record { site = record { owners = owners i; hostings = r.hostings; layouts = by_place (map (λ (p : Publisher). p.wire) r.publishers); sites = r.sites }; table = table i; lanes = states i }
+    λ i. record { site = record { owners = owners i; hostings = r.hostings; layouts = by_place (map (λ (p : Publisher). p.wire) r.publishers); sites = r.sites; takes_changes = b }; table = table i; lanes = states i }

@@ -1,5 +1,5 @@
 -- The world with which a service opens.
-use Rattle.std.specs.Prelude.{◌≡◌, ℕ, zero, suc, List, [], ◌∷◌, ◌++◌, false, map, unwrap_or}
+use Rattle.std.specs.Prelude.{◌≡◌, ℕ, zero, suc, List, [], ◌∷◌, ◌++◌, false, map, unwrap_or, IsTrue}
 use Rattle.std.specs.Borrow.{Bor}
 use Rattle.std.specs.FinMap as map
 use Rattle.std.specs.FinSet as set
@@ -30,21 +30,23 @@ row_at r = r.now
 abbrev pub with_row : Table → Row → Table
 with_row t row = record { handles = set.insert t.handles (canonical row.0); values = map.insert t.values (place row) row.1 }
 
--- The lanes are the publishers', closed, and speak their layouts, the hosted prefixes and the site information those of the tenants text, and the table holds its opening rows.
+-- The lanes are the publishers', closed, and speak their layouts, the hosted prefixes and the site information those of the tenants text, changes are taken, and the table holds its opening rows.
 pub record IsOpening (r : Register) (w : World) : Type 0 where
   pub owners : (lane : ℕ) → owner w.site lane ≡ register.owner r lane
   pub hostings : w.site.hostings ≡ r.hostings
   pub layouts : (publisher : ℕ) → layout w.site publisher ≡ register.wire r publisher
   pub sites : w.site.sites ≡ r.sites
+  pub takes_changes : IsTrue w.site.takes_changes
   pub closed : (lane : ℕ) → lane_of w lane ≡ fresh false
   pub table : w.table ≡ opening_table r.opening
 
--- The lanes are the publishers', closed, and speak their layouts, the hosted prefixes and the site information those of the tenants text, and the table is this one.
+-- The lanes are the publishers', closed, and speak their layouts, the hosted prefixes and the site information those of the tenants text, changes are taken, and the table is this one.
 pub record IsResumed (r : Register) (t : Table) (w : World) : Type 0 where
   pub owners : (lane : ℕ) → owner w.site lane ≡ register.owner r lane
   pub hostings : w.site.hostings ≡ r.hostings
   pub layouts : (publisher : ℕ) → layout w.site publisher ≡ register.wire r publisher
   pub sites : w.site.sites ≡ r.sites
+  pub takes_changes : IsTrue w.site.takes_changes
   pub closed : (lane : ℕ) → lane_of w lane ≡ fresh false
   pub table : w.table ≡ t
 

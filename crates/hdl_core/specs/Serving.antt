@@ -7,8 +7,9 @@ use Rattle.hdl_frame.specs.declared.envelope.Envelope.{Envelope}
 use Rattle.hdl_frame.specs.Envelope.{envelope_at}
 use Rattle.hdl_frame.specs.Frames.{IsFrame}
 use Rattle.hdl_msg.specs.declared.replies.ReplyContent.{ReplyContent}
+use Rattle.hdl_msg.specs.declared.replies.ReplyContent.TheVariants.{Empty}
 use Rattle.hdl_msg.specs.Codes.{IsNumberOf, response_number}
-use Rattle.hdl_msg.specs.declared.codes.ResponseCode.TheVariants.{ServerBusy, AuthenticationNeeded}
+use Rattle.hdl_msg.specs.declared.codes.ResponseCode.TheVariants.{OperationDenied, ServerBusy, AuthenticationNeeded}
 use Rattle.hdl_msg.specs.Message.{Content, SpellsRequest, code_of}
 use Rattle.hdl_msg.specs.Reply.{short_reply, reply_parts, IsAnnounced}
 use Rattle.hdl_pool.specs.Partial.{piece_of}
@@ -18,8 +19,6 @@ use Rattle.hdl_rows.specs.declared.rows.Refused.{Refused}
 use Rattle.hdl_ops.specs.Decisions.{Anyone, Decision, Decides, site_decision}
 use Rattle.hdl_ops.specs.Requests.{Response}
 use Rattle.hdl_ops.specs.Views.{algorithms_by, hosted_by, site_by, wire_by}
-use Rattle.hdl_value.specs.declared.wire.Wire.{Wire}
-use Rattle.hdl_ops.specs.declared.owner.Owner.{Owner}
 use Rattle.hdl_ops.specs.Admission.{request_algorithm}
 use Rattle.hdl_slots.specs.declared.pending.Pending.{Pending}
 use Rattle.hdl_slots.specs.Lanes.{challenge_of}
@@ -37,6 +36,7 @@ use Rattle.hdl_laws.specs.Speech.{Speech}
 use Rattle.hdl_core.specs.declared.origin.Origin.{Origin}
 use Rattle.hdl_core.specs.declared.origin.Received as code
 use Rattle.hdl_core.specs.declared.hearing.Heard.{Heard}
+use Rattle.hdl_core.specs.declared.speaker.Speaker.{Speaker}
 use Rattle.hdl_core.specs.declared.hearing.Heard.TheVariants.{Answered, Challenged}
 use Rattle.hdl_core.specs.Held.{Held, state_at, with_state}
 
@@ -59,21 +59,21 @@ pub record Context : Type 0 where
   pub algorithms : List ℕ → Algorithm
   pub table : Table
 
--- how the owner's lanes speak
-abbrev pub speech_by : Owner → Speech
-speech_by owner = record { wire = wire_by owner; site = site_by owner }
+-- how the publisher's lanes speak
+abbrev pub speech_by : Speaker → Speech
+speech_by speaker = record { wire = wire_by speaker.owner; site = site_by speaker.owner; takes_changes = speaker.takes_changes }
 
--- the context of the owner's lanes
-abbrev pub context : Owner → Table → Context
-context owner table = record { speech = speech_by owner; hosts = hosted_by owner; algorithms = algorithms_by owner; table = table }
+-- the context of the publisher's lanes
+abbrev pub context : Speaker → Table → Context
+context speaker table = record { speech = speech_by speaker; hosts = hosted_by speaker.owner; algorithms = algorithms_by speaker.owner; table = table }
 
 -- The context of a lane, and all lanes.
 pub record Scene : Type 0 where
   pub context : Context
   pub lanes : List Held
 
-abbrev pub scene : Owner → Table → List Held → Scene
-scene owner table lanes = record { context = context owner table; lanes = lanes }
+abbrev pub scene : Speaker → Table → List Held → Scene
+scene speaker table lanes = record { context = context speaker table; lanes = lanes }
 
 -- A challenge response as it came: from where, its request, and what it answers.
 pub record Returned : Type 0 where
@@ -111,6 +111,10 @@ IsHeardForAnyone given origin next request (Challenged octets digest) table' =
     (decision : Decision) × DecidesForAnyone given request decision × ((decision.code == response_number AuthenticationNeeded) ≡ true)
     × (octets ≡ challenge_octets (request_algorithm given.algorithms request) origin.moment next origin.envelope request origin.nonce) × (digest ≡ digest_of (request_algorithm given.algorithms request) request) × (table' ≡ given.table)
 
+-- the octets deny the request
+abbrev pub IsDenied : (List ℕ → Algorithm) → Origin → Content → List ℕ → Type 0
+IsDenied algorithms origin request octets = octets ≡ answer_octets (request_algorithm algorithms request) origin.moment origin.envelope request (response_number OperationDenied) Empty
+
 -- the octets answer a question for site information with this record
 abbrev pub IsInformed : Origin → Content → List ℕ → List ℕ → Type 0
 IsInformed origin request site octets = octets ≡ answer_octets Sha1 origin.moment origin.envelope request (site_decision Sha1 request site).code (site_decision Sha1 request site).content
@@ -128,17 +132,17 @@ Replies given moment task octets state' table' =
 abbrev pub IsRedeemed : Context → Origin → Response → Pending → List ℕ → Table → Type 0
 IsRedeemed given origin response pending octets table' =
     (state : LaneState) (message : List ℕ) → (reading : Option Content) × IsReading (SpellsRequest given.speech.wire pending.message) reading
-    × Replies given origin.moment (redeem_task state (message_as origin message) response pending reading) octets (without_challenge state (message_as origin message)) table'
+    × Replies given origin.moment (redeem_task given.speech.takes_changes state (message_as origin message) response pending reading) octets (without_challenge state (message_as origin message)) table'
 
 -- what was returned, as a task of a lane in this state
-abbrev pub IsReturnedTask : Wire → LaneState → Returned → List ℕ → Task → Type 0
-IsReturnedTask wire state returned message task = IsResponseTask wire state (message_as returned.origin message) returned.request returned.response (challenge_of state.challenges.challenges returned.origin.peer returned.origin.envelope.session) task
+abbrev pub IsReturnedTask : Speech → LaneState → Returned → List ℕ → Task → Type 0
+IsReturnedTask speech state returned message task = IsResponseTask speech state (message_as returned.origin message) returned.request returned.response (challenge_of state.challenges.challenges returned.origin.peer returned.origin.envelope.session) task
 
 -- a challenge response on a lane has this reply
 abbrev pub RespondsAt : Scene → ℕ → Returned → List ℕ → List Held → Table → Type 0
 RespondsAt given number returned octets lanes' table' =
     (message : List ℕ) → (state' : LaneState) × (lanes' ≡ with_state given.lanes number state') × (task : Task)
-    × IsReturnedTask given.context.speech.wire (state_at given.lanes number) returned message task × Replies given.context returned.origin.moment task octets state' table'
+    × IsReturnedTask given.context.speech (state_at given.lanes number) returned message task × Replies given.context returned.origin.moment task octets state' table'
 
 -- a message on a lane has this reply
 abbrev pub IsHeard : Context → LaneState → tasks.Message → List ℕ → LaneState → Table → Type 0

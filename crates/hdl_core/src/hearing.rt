@@ -5,17 +5,18 @@ ghost use Rattle.hdl_msg.specs.declared.codes.OpCode.TheVariants.{GetSiteInfo};
 ghost use Rattle.hdl_msg.specs.Codes.{response_number, IsNumberOf};
 ghost use Rattle.hdl_msg.specs.Views.{operation_of};
 ghost use Rattle.hdl_msg.specs.Reply.{IsReplyFrame};
-ghost use Rattle.hdl_ops.specs.Views.{response_view, site_by};
+ghost use Rattle.hdl_ops.specs.Views.{algorithms_by, response_view, site_by};
 ghost use Rattle.hdl_reach.specs.Cost.{ReadsWithin};
 ghost use Rattle.hdl_ops.specs.Cost.{anyone_cost, proof_cost};
 ghost use Rattle.hdl_laws.specs.Cost.{IsUnchallenged};
 ghost use Rattle.hdl_core.specs.Held.{state_at};
-ghost use Rattle.hdl_laws.specs.Tasks.{is_late, told_site};
-ghost use Rattle.hdl_core.specs.Serving.{challenge_of_request, context, message_as, scene, sent_of, HasItsCode, IsHeardForAnyone, IsInformed, IsRedeemed, RespondsAt, HearsAt};
+ghost use Rattle.hdl_laws.specs.Tasks.{is_denied, is_late, told_site};
+ghost use Rattle.hdl_core.specs.Serving.{challenge_of_request, context, message_as, scene, sent_of, HasItsCode, IsDenied, IsHeardForAnyone, IsInformed, IsRedeemed, RespondsAt, HearsAt};
 
 use crate::answering::{answer, code_reply, malformed_reply};
 use crate::lanes::Lanes;
 use crate::origin::Origin;
+use crate::speaker::Speaker;
 use hdl_auth::algorithm::{Algorithm, Digest};
 use hdl_frame::Envelope;
 use hdl_limits::{CHALLENGE_LIFE, Octets};
@@ -61,17 +62,18 @@ fn is_challenged(decision: &Decision) -> bool
 
 /// Decides a request for anyone. A challenge gets the lane's next number.
 fn hear_for_anyone<R: Masked>(
-    owner: &Owner<'_>,
+    speaker: &Speaker<'_>,
     rows: &mut R,
     origin: &Origin,
     next: u32,
     request: &Request<'_>,
 ) -> Result<Heard, Refused>
-    ensures asked { IfOk result (λ heard. IsHeardForAnyone (context owner.now (R.content rows.old)) origin.now next request.now heard (R.content rows.new)) }
+    ensures asked { IfOk result (λ heard. IsHeardForAnyone (context speaker.now (R.content rows.old)) origin.now next request.now heard (R.content rows.new)) }
     ensures read { IfOk result (λ heard. HasItsCode request.now → IsReplyFrame (sent_of heard)) }
     ensures undone { OnErr result (R.content rows.new ≡ R.content rows.old) }
     ensures cost { ReadsWithin (R.content rows.old) anyone_cost (R.reads rows.old) (R.reads rows.new) }
 {
+    let owner = &speaker.owner;
     let named = NamedRequest::of_owner(owner, request)?;
     let asked = named.asked;
     let decision = decide(named, rows, &Level::Anyone)?;
@@ -81,6 +83,41 @@ fn hear_for_anyone<R: Masked>(
     }
     let octets = answer(owner.alloc, &asked, rows, origin, decision)?;
     Ok(Heard::Answered(octets))
+}
+
+/// Whether the body asks for a change and none is taken.
+fn is_denied(takes_changes: bool, body: &Body<'_>) -> bool
+    ensures { result ≡ is_denied takes_changes (operation_of body.now) }
+{
+    if takes_changes {
+        return false;
+    }
+    match body {
+        Body::Create { .. } => true,
+        Body::Delete { .. } => true,
+        Body::Add { .. } => true,
+        Body::Remove { .. } => true,
+        Body::Modify { .. } => true,
+        Body::Resolution { .. } => false,
+        Body::List { .. } => false,
+        Body::SiteInfo { .. } => false,
+        Body::Response { .. } => false,
+        Body::Other { .. } => false,
+    }
+}
+
+/// The reply to a request for a change where none is taken. The table isn't read.
+fn deny(owner: &Owner<'_>, origin: &Origin, request: &Request<'_>) -> Result<Octets, Refused>
+    ensures denied { IfOk result (λ octets. IsDenied (algorithms_by owner.now) origin.now request.now octets) }
+    ensures read { IfOk result (λ octets. IsReplyFrame octets) }
+{
+    let named = NamedRequest::of_owner(owner, request)?;
+    code_reply(
+        owner.alloc,
+        &named.asked,
+        origin,
+        ResponseCode::OperationDenied,
+    )
 }
 
 /// The site information that answers the operation: the owner's, for a question for it.
@@ -137,20 +174,24 @@ fn is_late(origin: &Origin, pending: &Pending) -> bool
 
 /// The reply to a challenge response that names this challenge.
 fn redeem<'a, R: Masked>(
-    owner: &'a Owner<'a>,
+    speaker: &'a Speaker<'a>,
     rows: &mut R,
     origin: &Origin,
     response: Response<'a>,
     pending: &'a Pending,
 ) -> Result<Octets, Refused>
-    ensures redeemed { IfOk result (λ octets. IsRedeemed (context owner.now (R.content rows.old)) origin.now (response_view response.entry) pending.now octets (R.content rows.new)) }
+    ensures redeemed { IfOk result (λ octets. IsRedeemed (context speaker.now (R.content rows.old)) origin.now (response_view response.entry) pending.now octets (R.content rows.new)) }
     ensures read { IfOk result (λ octets. IsReplyFrame octets) }
     ensures undone { OnErr result (R.content rows.new ≡ R.content rows.old) }
     ensures cost { ReadsWithin (R.content rows.old) proof_cost (R.reads rows.old) (R.reads rows.new) }
 {
+    let owner = &speaker.owner;
     let Ok(request) = read_request(owner.wire(), pending.message.as_slice()) else {
         return malformed_reply(owner.alloc, &origin.envelope);
     };
+    if is_denied(speaker.takes_changes, request.body()) {
+        return deny(owner, origin, &request);
+    }
     let asked = HashedRequest {
         algorithm: pending.digest.algorithm(),
         request: &request,
@@ -175,7 +216,7 @@ fn redeem<'a, R: Masked>(
 
 /// The reply to a challenge response. The challenge that it names is spent, unless the reply is refused.
 fn respond<R: Masked>(
-    owner: &Owner<'_>,
+    speaker: &Speaker<'_>,
     rows: &mut R,
     lanes: &mut Lanes,
     origin: &Origin,
@@ -183,7 +224,7 @@ fn respond<R: Masked>(
     response: Response<'_>,
 ) -> Result<Octets, Refused>
     requires there { origin.now.lane < length lanes.old }
-    ensures responded { IfOk result (λ octets. RespondsAt (scene owner.now (R.content rows.old) lanes.old) origin.now.lane (record { origin = origin.now; request = request.now; response = response_view response.entry }) octets lanes.new (R.content rows.new)) }
+    ensures responded { IfOk result (λ octets. RespondsAt (scene speaker.now (R.content rows.old) lanes.old) origin.now.lane (record { origin = origin.now; request = request.now; response = response_view response.entry }) octets lanes.new (R.content rows.new)) }
     ensures read { IfOk result (λ octets. IsReplyFrame octets) }
     ensures undone { OnErr result (R.content rows.new ≡ R.content rows.old) }
     ensures unchanged { OnErr result (lanes.new ≡ lanes.old) }
@@ -196,40 +237,49 @@ fn respond<R: Masked>(
             algorithm: Algorithm::Sha1,
             request,
         };
-        return code_reply(owner.alloc, &asked, origin, ResponseCode::ProtocolError);
+        return code_reply(
+            speaker.owner.alloc,
+            &asked,
+            origin,
+            ResponseCode::ProtocolError,
+        );
     };
-    let octets = redeem(owner, rows, origin, response, pending)?;
+    let octets = redeem(speaker, rows, origin, response, pending)?;
     lanes.spend(origin.lane, origin.peer, session);
     Ok(octets)
 }
 
 /// Hears a message on a lane. A challenge takes the message with it into the lane's slot, once its reply is written.
 pub(crate) fn hear<R: Masked>(
-    owner: &Owner<'_>,
+    speaker: &Speaker<'_>,
     rows: &mut R,
     lanes: &mut Lanes,
     origin: &Origin,
     message: Vec<u8>,
 ) -> Result<Octets, Refused>
     requires there { origin.now.lane < length lanes.old }
-    ensures heard { IfOk result (λ octets. HearsAt (scene owner.now (R.content rows.old) lanes.old) origin.now.lane (message_as origin.now message.items) octets lanes.new (R.content rows.new)) }
+    ensures heard { IfOk result (λ octets. HearsAt (scene speaker.now (R.content rows.old) lanes.old) origin.now.lane (message_as origin.now message.items) octets lanes.new (R.content rows.new)) }
     ensures read { IfOk result (λ octets. IsReplyFrame octets) }
     ensures undone { OnErr result (R.content rows.new ≡ R.content rows.old) }
     ensures unchanged { OnErr result (lanes.new ≡ lanes.old) }
     ensures cost { ReadsWithin (R.content rows.old) proof_cost (R.reads rows.old) (R.reads rows.new) }
     ensures stranger { IsUnchallenged (state_at lanes.old origin.now.lane) origin.now.peer → ReadsWithin (R.content rows.old) anyone_cost (R.reads rows.old) (R.reads rows.new) }
 {
+    let owner = &speaker.owner;
     let Ok(request) = read_request(owner.wire(), &message) else {
         return malformed_reply(owner.alloc, &origin.envelope);
     };
     if let Some(response) = response_of(request.body()) {
-        return respond(owner, rows, lanes, origin, &request, response);
+        return respond(speaker, rows, lanes, origin, &request, response);
+    }
+    if is_denied(speaker.takes_changes, request.body()) {
+        return deny(owner, origin, &request);
     }
     if let Some(site) = told_site(owner, request.body()) {
         return inform(owner.alloc, origin, &request, site);
     }
     let next = lanes.next_number(origin.lane);
-    match hear_for_anyone(owner, rows, origin, next, &request)? {
+    match hear_for_anyone(speaker, rows, origin, next, &request)? {
         Heard::Answered(octets) => Ok(octets),
         Heard::Challenged(octets, digest) => {
             let nonce = origin.nonce;

@@ -1,21 +1,24 @@
 //! The machine: a service, and what its table owes.
 
-ghost use Rattle.std.specs.Prelude.{◌≡◌, IfOk};
+ghost use Rattle.std.specs.Prelude.{◌≡◌, ◌≢◌, true, false};
 ghost use Rattle.hdl_rows.specs.Debt.{is_owed};
 ghost use Rattle.hdl_laws.specs.Laws.{HostsNoRoot};
 ghost use Rattle.hdl_laws.specs.Runs.{Steps};
 ghost use Rattle.hdl_laws.specs.Reveals.{IsReadable, Reveals};
-ghost use Rattle.hdl_laws.specs.Worlds.{lane_of, owner};
+ghost use Rattle.hdl_laws.specs.Worlds.{lane_of, owner, with_table};
 ghost use Rattle.hdl_laws.specs.Cost.{IsStranger};
 ghost use Rattle.hdl_ops.specs.Cost.{anyone_cost, proof_cost};
-ghost use Rattle.hdl_reach.specs.Cost.{ReadsWithin};
+ghost use Rattle.hdl_ops.specs.Tables.{apply, CanApply};
+ghost use Rattle.hdl_reach.specs.Cost.{ReadsWithin, heads_cost};
 
 use crate::lanes::Lanes;
+use crate::letting::{LetIn, let_in, refusal};
 use crate::service::Service;
 use crate::serving::serve;
+use crate::speaker::Speaker;
 use hdl_events::{Event, Outcome};
 use hdl_laws::laws::reply_told;
-use hdl_ops::{MaskedRows, Owner, Rows, Tenants};
+use hdl_ops::{Change, MaskedRows, Owner, Rows, Tenants};
 use hdl_rows::{Owed, Owing};
 use hdl_tenants::root_is_nobodys;
 use std::alloc::Global;
@@ -26,6 +29,7 @@ use std::marker::Model;
 pub struct Machine<R: Rows + Drop> {
     pub(crate) alloc: Global,
     pub(crate) tenants: Tenants,
+    pub(crate) takes_changes: bool,
     pub(crate) lanes: Lanes,
     pub(crate) rows: MaskedRows<R>,
 }
@@ -42,7 +46,7 @@ impl<R: Rows + Drop> Model for Machine<R> {
 
     ghost coded = { machine_code (Prim.hlevel (codes, map.code, set.code)) R.code };
 
-    ghost view = { λ s. record { world = world_of s.tenants s.lanes (R.content s.rows); rows = s.rows } };
+    ghost view = { λ s. record { world = world_of s.tenants s.takes_changes s.lanes (R.content s.rows); rows = s.rows } };
 }
 
 /// What came of an event.
@@ -88,7 +92,30 @@ impl<R: Owing + Drop> Machine<R> {
             tenants: &self.tenants,
             publisher: self.lanes.publisher(event.lane),
         };
-        serve(&owner, &mut self.rows, &mut self.lanes, event)
+        let speaker = Speaker {
+            owner,
+            takes_changes: self.takes_changes,
+        };
+        serve(&speaker, &mut self.rows, &mut self.lanes, event)
+    }
+
+    /// Does a change that another server decided, as [`Service::let_in`](crate::Service::let_in) does.
+    pub fn let_in(&mut self, moment: u64, change: &Change) -> LetIn
+        ensures done { result ≡ LetIn.Done → CanApply self.old.world.table change.now × (self.new.world ≡ with_table self.old.world (apply self.old.world.table moment change.now)) }
+        ensures unfit { result ≡ LetIn.Unfit → ¬ CanApply self.old.world.table change.now }
+        ensures undone { result ≢ LetIn.Done → self.new.world ≡ self.old.world }
+        ensures refused { result ≡ LetIn.Refused → (R.debt self.new.rows).owes ≡ false }
+        ensures owed { result ≡ LetIn.Owed → (R.debt self.new.rows).owes ≡ true }
+        ensures cost { ReadsWithin self.old.world.table heads_cost (R.reads self.old.rows) (R.reads self.new.rows) }
+    {
+        self.rows.let_write(true);
+        let Ok(is_done) = let_in(self.alloc, &mut self.rows, moment, change) else {
+            return refusal(self.rows.owed());
+        };
+        if is_done {
+            return LetIn::Done;
+        }
+        LetIn::Unfit
     }
 
     /// Whether the table hands writes over at all.

@@ -182,6 +182,7 @@ impl<R: Rows + Drop> Service<R> {
             machine: Machine {
                 alloc,
                 tenants,
+                takes_changes: true,
                 lanes,
                 rows,
             },
@@ -200,6 +201,7 @@ impl<R: Rows + Drop> Service<R> {
             machine: Machine {
                 alloc,
                 tenants,
+                takes_changes: true,
                 lanes,
                 rows,
             },

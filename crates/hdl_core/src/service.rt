@@ -1,18 +1,20 @@
 //! The service over any table.
 
-ghost use Rattle.std.specs.Prelude.{◌≡◌, All, IfOk, IfErr, OnErr};
-ghost use Rattle.hdl_reach.specs.Cost.{ReadsWithin};
+ghost use Rattle.std.specs.Prelude.{◌≡◌, ◌≢◌, true, false, All, IfOk, IfErr, OnErr};
+ghost use Rattle.hdl_reach.specs.Cost.{ReadsWithin, heads_cost};
 ghost use Rattle.hdl_ops.specs.Cost.{anyone_cost, proof_cost};
+ghost use Rattle.hdl_ops.specs.Tables.{apply, CanApply};
 ghost use Rattle.hdl_laws.specs.Cost.{IsStranger, RunReads};
 ghost use Rattle.hdl_laws.specs.Laws.{Hidden, HostsNoRoot, Isolated};
 ghost use Rattle.hdl_laws.specs.Runs.{Run, Steps};
 ghost use Rattle.hdl_laws.specs.Reveals.{IsReadable, Reveals};
-ghost use Rattle.hdl_laws.specs.Worlds.{lane_of};
+ghost use Rattle.hdl_laws.specs.Worlds.{lane_of, read_only, with_table};
 
+use crate::letting::LetIn;
 use crate::machine::Machine;
 use hdl_events::{Event, Outcome};
 use hdl_laws::laws::{restricted, runs_joined, twin_replies};
-use hdl_ops::Rows;
+use hdl_ops::{Change, Rows};
 use hdl_rows::Owing;
 use std::marker::Model;
 
@@ -68,8 +70,8 @@ impl<R: Owing + Drop> Service<R> {
     /// the events come back.
     ///
     /// Each publisher's outcomes other than Busy are those of a service that holds its rows and the values at a cover alone, and
-    /// serves its events alone, so long as no other publisher changed these (`isolated`). Beyond codes no reply depends on a
-    /// value that nobody in the run was allowed to read (`hidden`).
+    /// serves the events so answered alone, so long as no other publisher changed these (`isolated`). Beyond codes no reply depends on a
+    /// value of the first table that nobody in the run was allowed to read (`hidden`).
     pub fn run(&mut self, events: Vec<Event>) -> Result<Vec<Outcome>, Early>
         ensures run { IfOk result (λ outcomes. Run self.old.world events.items outcomes.items self.new.world) }
         ensures isolated { IfOk result (λ outcomes. Isolated self.old.world events.items outcomes.items) }
@@ -94,6 +96,22 @@ impl<R: Owing + Drop> Service<R> {
         }
         Ok(outcomes)
     }
+
+    /// Does a change that another server decided, at the moment of its decision in milliseconds. It tests itself whether the table
+    /// can have the change. Lanes and site stay as they are, and the masks and searches that the change may touch are forgotten.
+    ///
+    /// `Refused` and `Owed` leave the world as it was, and the same call may be made again. A table that makes its own writes never
+    /// answers `Owed`. What it reads of the table are the heads of one handle's values at most (`cost`).
+    pub fn let_in(&mut self, moment: u64, change: &Change) -> LetIn
+        ensures done { result ≡ LetIn.Done → CanApply self.old.world.table change.now × (self.new.world ≡ with_table self.old.world (apply self.old.world.table moment change.now)) }
+        ensures unfit { result ≡ LetIn.Unfit → ¬ CanApply self.old.world.table change.now }
+        ensures undone { result ≢ LetIn.Done → self.new.world ≡ self.old.world }
+        ensures refused { result ≡ LetIn.Refused → (R.debt self.new.rows).owes ≡ false }
+        ensures owed { result ≡ LetIn.Owed → (R.debt self.new.rows).owes ≡ true }
+        ensures cost { ReadsWithin self.old.world.table heads_cost (R.reads self.old.rows) (R.reads self.new.rows) }
+    {
+        self.machine.let_in(moment, change)
+    }
 }
 
 impl<R: Rows + Drop> Service<R> {
@@ -110,6 +128,16 @@ impl<R: Rows + Drop> Service<R> {
         ensures { R.content result ≡ self.world.table }
     {
         self.machine.into_rows()
+    }
+
+    /// The service that takes no changes: each request for one is answered 5, "operation denied", at once and without a challenge. So
+    /// its table stays (`hdl_laws::laws::reads_only`).
+    pub fn into_read_only(mut self) -> Service<R>
+        ensures world { result.world ≡ read_only self.world }
+        ensures rows { result.rows ≡ self.rows }
+    {
+        self.machine.takes_changes = false;
+        self
     }
 
     /// Nobody hosts the prefix of the administrative handles. Whoever joins runs of a service needs it to isolate publishers in the

@@ -14,11 +14,12 @@ ghost use Rattle.hdl_core.specs.Serving.{AssemblesAt, outcome_of, received_as, r
 use crate::hearing::hear;
 use crate::lanes::Lanes;
 use crate::origin::{Origin, Received};
+use crate::speaker::Speaker;
 use hdl_events::{Event, Outcome, What};
 use hdl_frame::{ENVELOPE_LEN, Envelope, Frame, one_datagram};
 use hdl_limits::Octets;
 use hdl_msg::{busy, refuse};
-use hdl_ops::{Masked, Owner, Refused};
+use hdl_ops::{Masked, Refused};
 use hdl_pool::Taken;
 
 /// The message behind an envelope, in the octets' own memory.
@@ -35,7 +36,7 @@ fn message_of(octets: Octets) -> Vec<u8>
 /// A piece of a message that came on an open lane. What came of its message before is forgotten once the whole message is
 /// answered; where that is refused it stands as it was.
 fn assemble<R: Masked>(
-    owner: &Owner<'_>,
+    speaker: &Speaker<'_>,
     rows: &mut R,
     lanes: &mut Lanes,
     origin: &Origin,
@@ -45,7 +46,7 @@ fn assemble<R: Masked>(
     requires frame { IsFrameOf frame.now.bytes.now frame.now }
     requires piece { is_truncated (envelope_at frame.now.bytes.now) ≡ true }
     requires envelope { origin.now.envelope ≡ envelope_at frame.now.bytes.now }
-    ensures assembled { IfOk result (λ reply. AssemblesAt (scene owner.now (R.content rows.old) lanes.old) origin.now.lane (received_as origin.now frame.now.bytes.now) reply lanes.new (R.content rows.new)) }
+    ensures assembled { IfOk result (λ reply. AssemblesAt (scene speaker.now (R.content rows.old) lanes.old) origin.now.lane (received_as origin.now frame.now.bytes.now) reply lanes.new (R.content rows.new)) }
     ensures read { IfOk result (λ reply. IfSome reply IsReplyFrame) }
     ensures undone { OnErr result (R.content rows.new ≡ R.content rows.old) }
     ensures unchanged { OnErr result (lanes.new ≡ lanes.old) }
@@ -57,7 +58,7 @@ fn assemble<R: Masked>(
     };
     match taken {
         Taken::Whole(message) => {
-            let reply = hear(owner, rows, lanes, origin, message)?;
+            let reply = hear(speaker, rows, lanes, origin, message)?;
             lanes.free(origin.lane, origin.peer, &origin.envelope);
             Ok(Some(reply))
         }
@@ -80,13 +81,13 @@ fn outcome_of(envelope: &Envelope, reply: Result<Option<Octets>, Refused>) -> Ou
 
 /// Octets that came on an open lane.
 fn receive<R: Masked>(
-    owner: &Owner<'_>,
+    speaker: &Speaker<'_>,
     rows: &mut R,
     lanes: &mut Lanes,
     received: Received,
 ) -> Outcome
     requires there { received.lane < length lanes.old }
-    ensures received { ReceivesAt (scene owner.now (R.content rows.old) lanes.old) received.lane (received_of received) result lanes.new (R.content rows.new) }
+    ensures received { ReceivesAt (scene speaker.now (R.content rows.old) lanes.old) received.lane (received_of received) result lanes.new (R.content rows.new) }
     ensures read { IsReadable result }
     ensures cost { ReadsWithin (R.content rows.old) proof_cost (R.reads rows.old) (R.reads rows.new) }
     ensures stranger { IsUnchallenged (state_at lanes.old received.lane) received.peer → ReadsWithin (R.content rows.old) anyone_cost (R.reads rows.old) (R.reads rows.new) }
@@ -110,11 +111,11 @@ fn receive<R: Masked>(
         envelope,
     };
     if envelope.is_truncated() {
-        let reply = assemble(owner, rows, lanes, &origin, &frame);
+        let reply = assemble(speaker, rows, lanes, &origin, &frame);
         return outcome_of(&envelope, reply);
     }
     let message = message_of(bytes);
-    match hear(owner, rows, lanes, &origin, message) {
+    match hear(speaker, rows, lanes, &origin, message) {
         Ok(reply) => Outcome::Reply(reply),
         Err(_) => Outcome::Busy(busy(&envelope)),
     }
@@ -122,13 +123,13 @@ fn receive<R: Masked>(
 
 /// Serves an event of a lane that somebody owns.
 pub(crate) fn serve<R: Masked>(
-    owner: &Owner<'_>,
+    speaker: &Speaker<'_>,
     rows: &mut R,
     lanes: &mut Lanes,
     event: Event,
 ) -> Outcome
     requires there { event.lane < length lanes.old }
-    ensures served { ServesAt (scene owner.now (R.content rows.old) lanes.old) event.lane event.what result lanes.new (R.content rows.new) }
+    ensures served { ServesAt (scene speaker.now (R.content rows.old) lanes.old) event.lane event.what result lanes.new (R.content rows.new) }
     ensures read { IsReadable result }
     ensures cost { ReadsWithin (R.content rows.old) proof_cost (R.reads rows.old) (R.reads rows.new) }
     ensures stranger { IsStranger (state_at lanes.old event.lane) event.what → ReadsWithin (R.content rows.old) anyone_cost (R.reads rows.old) (R.reads rows.new) }
@@ -165,7 +166,7 @@ pub(crate) fn serve<R: Masked>(
                 nonce,
                 bytes,
             };
-            receive(owner, rows, lanes, received)
+            receive(speaker, rows, lanes, received)
         }
     }
 }

@@ -13,7 +13,7 @@ use Rattle.hdl_tenants.specs.Register.{Register, Row, IsRegister, prefixes_of}
 use Rattle.hdl_tenants.specs.Text.{opened, place_of, IsLine, IsAccepted}
 use Rattle.hdl_export.specs.Lines.{Lacks, is_sayable, value_line, text_of, is_other, IsWritable}
 use Rattle.hdl_reach.specs.Laws.{IsOnward}
-use Rattle.hdl_laws.specs.Worlds.{World, hosts}
+use Rattle.hdl_laws.specs.Worlds.{World, with_table, hosts}
 use Rattle.hdl_laws.specs.Steps.{Turn}
 use Rattle.hdl_laws.specs.Runs.{IsRun, events, outcomes}
 use Rattle.hdl_laws.specs.Laws.{HostsNoRoot}
@@ -113,10 +113,6 @@ pub record IsSayable (prefixes : List (List ℕ)) (t : Table) : Type 0 where
   pub indexed : (p : Place) (v : Value) → at t p ≡ Some v → v.index ≡ p.index
   pub named : (h : List ℕ) → has t h ≡ true → IsTrue (is_among (prefix h) prefixes) → IsTrue (is_sayable h)
   pub valued : (h : List ℕ) → has t h ≡ true → IsTrue (is_among (prefix h) prefixes) → (i : ℕ) × (v : Value) × (at t (table.place h i) ≡ Some v)
-
--- the world with another table
-abbrev pub with_table : World → Table → World
-with_table w t = record { site = w.site; table = t; lanes = w.lanes }
 
 -- Over the table of the second text a publisher has what it had. Both texts say the same lanes, prefixes and site information; the places are a cover for it at the
 -- start, in both tables; and what it has of the world, with the values at the cover, is what it has of the world with the table that the second text opens.

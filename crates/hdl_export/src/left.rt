@@ -2,7 +2,7 @@
 
 use crate::fault::ExportFault;
 use crate::line::is_sayable;
-use crate::prefixes::{authorities_of, is_among, prefixes_for, prefixes_of};
+use crate::prefixes::{ADMIN_AUTHORITY, authorities_of, is_among, prefixes_for, prefixes_of};
 use crate::rows::name_of;
 use hdl_limits::Octets;
 use hdl_rows::Rows;
@@ -84,4 +84,52 @@ pub fn left_out_of<R: Rows>(
 ) -> Result<LeftOut, ExportFault> {
     let prefixes = prefixes_for(alloc, text, publisher)?;
     left_under(alloc, prefixes.as_slice(), rows)
+}
+
+/// A prefix that a text lacks, and how many handles of a table have it.
+#[derive(Drop)]
+pub struct LeftPrefix {
+    pub prefix: String,
+    pub handles: u64,
+}
+
+/// Adds a prefix, unless it is one of these.
+fn push_prefix<R: Rows>(
+    alloc: Global,
+    rows: &mut R,
+    prefixes: &[&str],
+    prefix: &[u8],
+    left: &mut Vec<LeftPrefix>,
+) -> Result<(), ExportFault> {
+    if is_among(prefix, prefixes) {
+        return Ok(());
+    }
+    let Ok(text) = str::from_utf8(prefix) else {
+        return Err(ExportFault::Row);
+    };
+    let others = rows.names(prefix)?.len() as u64;
+    let one = LeftPrefix {
+        prefix: String::from_str(alloc, text)?,
+        handles: others.saturating_add(1),
+    };
+    match left.push(one) {
+        Ok(()) => Ok(()),
+        Err(_) => Err(ExportFault::Memory),
+    }
+}
+
+/// The prefixes that the text lacks, of those whose administrative handle the table has.
+pub fn left_prefixes<R: Rows>(
+    alloc: Global,
+    text: &str,
+    rows: &mut R,
+) -> Result<Vec<LeftPrefix>, ExportFault> {
+    let prefixes = prefixes_of(alloc, text)?;
+    let administrative = rows.names(ADMIN_AUTHORITY.as_bytes())?;
+    let mut left = Vec::new(alloc);
+    for handle in &administrative {
+        let name = name_of(alloc, handle.as_slice())?;
+        push_prefix(alloc, rows, prefixes.as_slice(), name.prefix(), &mut left)?;
+    }
+    Ok(left)
 }

@@ -16,13 +16,13 @@
 //! opens with it has of the publisher just what the old one had, in the words of `hdl_laws`: the restricted worlds are one. So it is answered alike ([`moved_is_answered_alike`]).
 //!
 //! A text can't say a handle without a value, nor one with a space or a line feed in its name. [`left_out`] and [`left_out_of`] count
-//! these, which no clause says.
+//! these, and [`left_prefixes`] the handles of prefixes that the text lacks, which no clause says.
 //!
 //! ```rust
 //! // crates/hdl_tables/src/exporting.rt
 //! let left = left_out(rt.alloc(), text, rows)?;
+//! let prefixes = left_prefixes(rt.alloc(), text, rows)?;
 //! let text = export(rt.alloc(), text, rows)?;
-//! Ok(Exported { text, left })
 //! ```
 //!
 //! # Decisions
@@ -54,6 +54,6 @@ pub use laws::{
     lines_are_read, moved_is_answered_alike, publisher_moves, register_is_read, rows_are_only,
     value_line_is_read,
 };
-pub use left::{LeftOut, left_out, left_out_of};
+pub use left::{LeftOut, LeftPrefix, left_out, left_out_of, left_prefixes};
 pub use line::value_line;
 pub use writing::{export, export_publisher};

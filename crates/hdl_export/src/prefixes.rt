@@ -10,7 +10,7 @@ ghost use Rattle.hdl_export.specs.Rows as spec;
 use std::alloc::{AllocError, Global};
 
 /// The authority of administrative handles, which no text hosts.
-const ADMIN_AUTHORITY: &str = "0.na";
+pub(crate) const ADMIN_AUTHORITY: &str = "0.na";
 
 /// The fields of a line: what stands between its single spaces.
 fn fields_of<'a>(alloc: Global, line: &'a str) -> Result<Vec<&'a str>, AllocError>

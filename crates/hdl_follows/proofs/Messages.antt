@@ -28,7 +28,7 @@ use Rattle.hdl_ops.proofs.SiteDecisions.{site_code, site_unchallenged}
 use Rattle.hdl_events.specs.declared.Outcome.TheVariants.{Reply}
 use Rattle.hdl_laws.specs.Lanes.{LaneState}
 use Rattle.hdl_laws.specs.Speech.{Speech}
-use Rattle.hdl_laws.specs.Tasks.{Message, Task, Ignore, Break, Malformed, Unknown, Late, Ask, Inform, Redeem, told_site, ask_task, is_late, redeem_task, IsReading, IsResponseTask, IsRequestTask, IsContentTask, IsMessageTask}
+use Rattle.hdl_laws.specs.Tasks.{Message, Task, Ignore, Break, Malformed, Unknown, Late, Deny, Ask, Inform, Redeem, told_site, ask_task, is_denied, is_late, due_task, redeem_task, IsReading, IsResponseTask, IsRequestTask, IsContentTask, IsMessageTask}
 use Rattle.hdl_laws.specs.Tasks as laws
 use Rattle.hdl_laws.specs.Effects.{Effect, Does, pending, answer_octets, challenge_octets, answer_effect, challenge_effect}
 use Rattle.hdl_laws.proofs.Codes.{reply_code, challenge_code}
@@ -191,8 +191,11 @@ module _ (speech : Speech) (hosted : List ℕ → Bool) (algorithms : List ℕ �
       let d = site_decision Sha1 r site in
       subst (Answered speech.wire s m) (sym does) (plain Sha1 r d (site_code Sha1 r site) (site_unchallenged Sha1 r site) (ap (λ (b : Bool). b && not (eqb d.code 4)) other))
 
+  denied : (r : Content) → is_response (number_at m.message 0) ≡ false → (eff : Effect) → Does hosted algorithms t (Deny m r s) eff → Answered speech.wire s m eff
+  denied r other eff does = subst (Answered speech.wire s m) (sym does) (plain (request_algorithm algorithms r) r (failure 5 Empty) refl refl (ap (λ (b : Bool). b && true) other))
+
   responded : (r : Content) (answer : Response) → is_response (number_at m.message 0) ≡ true → (p : Option Pending) → slots.challenge_of s.challenges.challenges m.peer m.envelope.session ≡ p
-      → (k : Task) (eff : Effect) → IsResponseTask speech.wire s m r answer p k → Does hosted algorithms t k eff → Answered speech.wire s m eff
+      → (k : Task) (eff : Effect) → IsResponseTask speech s m r answer p k → Does hosted algorithms t k eff → Answered speech.wire s m eff
   responded r answer is None missed k eff task does =
       let done : Does hosted algorithms t (Unknown m r s) eff = subst (λ (j : Task). Does hosted algorithms t j eff) task does in
       subst (Answered speech.wire s m) (sym done) (plain Sha1 r (failure 4 Empty) refl refl (no_change (is_response (number_at m.message 0))))
@@ -210,9 +213,9 @@ module _ (speech : Speech) (hosted : List ℕ → Bool) (algorithms : List ℕ �
               let same : c.pending ≡ p = cc in
               subst (λ (q : Pending). (request : Content) × SpellsRequest speech.wire q.message request) same can
 
-      by_reading : (o : Option Content) → IsReading (SpellsRequest speech.wire p.message) o → Does hosted algorithms t (redeem_task s m answer p o) eff → Answered speech.wire s m eff
+      by_reading : (o : Option Content) → IsReading (SpellsRequest speech.wire p.message) o → Does hosted algorithms t (redeem_task speech.takes_changes s m answer p o) eff → Answered speech.wire s m eff
       by_reading None none done = absurd (none readable.0 readable.1)
-      by_reading (Some request) spelt done = by_late (is_late m p) done
+      by_reading (Some request) spelt done = by_denial (is_denied speech.takes_changes request.operation) done
         where
           by_late : (b : Bool)
               → Does hosted algorithms t (cond {A = Task} b (Late m request (algorithm_of p.digest) (laws.without_challenge s m)) (Redeem m request (record { response = answer; nonce = p.nonce; digest = p.digest }) (laws.without_challenge s m))) eff
@@ -226,13 +229,17 @@ module _ (speech : Speech) (hosted : List ℕ → Bool) (algorithms : List ℕ �
               (spending a request d (decides_code hosted a t request (Proven proof) d done.1) (proven_code hosted a t request proof d done.1)
               (ap (λ (b : Bool). b && not (eqb d.code 4)) is ∙ ap not (proven_no_fault hosted a t request proof d done.1)))
 
+          by_denial : (b : Bool) → Does hosted algorithms t (cond {A = Task} b (Deny m request (laws.without_challenge s m)) (due_task (laws.without_challenge s m) m answer p request)) eff → Answered speech.wire s m eff
+          by_denial true done = subst (Answered speech.wire s m) (sym done) (spending (request_algorithm algorithms request) request (failure 5 Empty) refl refl (ap (λ (b : Bool). b && true) is))
+          by_denial false done = by_late (is_late m p) done
+
   -- the trail sees what the reply to a message does
   pub message_answered : (k : Task) (eff : Effect) → IsMessageTask speech s m k → Does hosted algorithms t k eff → Answered speech.wire s m eff
   message_answered k eff task does = by_reading task.0 task.1 task.2
     where
       by_response : (r : Content) → SpellsRequest speech.wire m.message r → (o : Option Response) → response_of r.operation ≡ o → IsRequestTask speech s m r o k → Answered speech.wire s m eff
       by_response r spelt None is task =
-          by_site (told_site speech.site r.operation) (subst (λ (j : Task). Does hosted algorithms t j eff) task does)
+          by_denial (is_denied speech.takes_changes r.operation) (subst (λ (j : Task). Does hosted algorithms t j eff) task does)
         where
           other : is_response (number_at m.message 0) ≡ false
           other = response_seen speech.wire m.message r spelt ∙ ap is_some is
@@ -240,6 +247,10 @@ module _ (speech : Speech) (hosted : List ℕ → Bool) (algorithms : List ℕ �
           by_site : (o : Option (List ℕ)) → Does hosted algorithms t (ask_task s m r o) eff → Answered speech.wire s m eff
           by_site None done = asked r spelt other eff done
           by_site (Some site) done = informed r site other eff done
+
+          by_denial : (b : Bool) → Does hosted algorithms t (cond {A = Task} b (Deny m r s) (ask_task s m r (told_site speech.site r.operation))) eff → Answered speech.wire s m eff
+          by_denial true done = denied r other eff done
+          by_denial false done = by_site (told_site speech.site r.operation) done
       by_response r spelt (Some answer) is task =
           responded r answer (response_seen speech.wire m.message r spelt ∙ ap is_some is) (slots.challenge_of s.challenges.challenges m.peer m.envelope.session) refl k eff task does
 

@@ -1,7 +1,9 @@
 pub mod Change
 pub mod Draft
+pub mod Guarded
 pub mod Offer
 pub mod Origin
 pub mod Pages
+pub mod Taken
 pub mod Template
 pub mod Token

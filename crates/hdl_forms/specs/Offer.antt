@@ -22,6 +22,7 @@ pub record Offers (to : Offer) (before : Answer) (after : Answer) : Type 0 where
   pub media : after.media ≡ before.media
   pub location : after.location ≡ before.location
   pub keeping : after.keeping ≡ before.keeping
+  pub about : after.about ≡ before.about
   pub title : after.title ≡ before.title
   pub body : after.body.items ≡ before.body.items ++ offer_markup to
 

@@ -3,7 +3,7 @@ use Rattle.std.specs.Prelude.{◌≡◌, ℕ, ◌==◌, if◌then◌else◌, Lis
 use Rattle.hdl_proxy.specs.Escape.{escaped}
 use Rattle.hdl_forms.specs.declared.markup.Template.{Template}
 use Rattle.hdl_forms.specs.declared.markup.Template.TheVariants as templates
-use Rattle.hdl_forms.specs.declared.markup.TheConstants.{VALUES, VALUE, NONE, ADD, GONE, CREATE, SHOWN, CONFIRM, DONE, REFUSED}
+use Rattle.hdl_forms.specs.declared.markup.TheConstants.{VALUES, VALUE, NONE, ADD, GONE, CREATE, SHOWN, CHANGED, CONFIRM, DONE, REFUSED}
 use Rattle.hdl_forms.specs.declared.template.TheConstants.{HOLE}
 
 abbrev pub markup_of : Template → List ℕ
@@ -14,6 +14,7 @@ markup_of templates.Add = ADD.now
 markup_of templates.Gone = GONE.now
 markup_of templates.Create = CREATE.now
 markup_of templates.Shown = SHOWN.now
+markup_of templates.Changed = CHANGED.now
 markup_of templates.Confirm = CONFIRM.now
 markup_of templates.Done = DONE.now
 markup_of templates.Refused = REFUSED.now

@@ -1,5 +1,15 @@
 //! From a request of a form to a page, or to an order.
 
+ghost use Rattle.std.specs.Prelude.{◌≡◌, None, Ok, true, false, codes, option_copied, IfOk, IsSomeAnd};
+ghost use Rattle.hdl_proxy.specs.Query.{texts_of};
+ghost use Rattle.hdl_proxy.specs.declared.answer.Status.{Status};
+ghost use Rattle.hdl_proxy.specs.declared.answer.Status.TheVariants.{Success, Forbidden};
+ghost use Rattle.hdl_forms.specs.Draft.{draft_in};
+ghost use Rattle.hdl_forms.specs.Origin.{is_own};
+ghost use Rattle.hdl_forms.specs.Pages.{IsFormPage};
+ghost use Rattle.hdl_forms.specs.Taken.{IsOrderOf, IsStep, about, fields_of, page_status, subject_of, text_in};
+ghost use Rattle.hdl_forms.specs.Token.{accepts};
+
 use crate::change::{FormOrder, TypedKey, order_of};
 use crate::draft::{first_named, read_draft};
 use crate::fault::{Fault, Field, NO_FAULT, fault_of_draft, fault_of_key, fault_of_name};
@@ -32,7 +42,9 @@ pub enum FormPlace {
 
 impl FormPlace {
     /// What its tokens are for: the handle, and nothing where it is new.
-    pub fn subject(&self) -> &[u8] {
+    pub fn subject(&self) -> &[u8]
+        ensures { result.now ≡ subject_of self.now }
+    {
         match self {
             FormPlace::Edit(name) => name.sent(),
             FormPlace::New => b"",
@@ -93,6 +105,7 @@ pub fn form_question(alloc: Global, name: Name) -> Question {
         locatt: String::new(alloc),
         aliases: false,
         passed: Vec::new(alloc),
+        tried: Vec::new(alloc),
         keeping: Keeping::Never,
         anew: true,
     }
@@ -115,7 +128,9 @@ pub fn edit_page(
 }
 
 /// The page with the form of a new handle.
-pub fn new_page(alloc: Global, token: &[u8]) -> Result<Answer, AllocError> {
+pub fn new_page(alloc: Global, token: &[u8]) -> Result<Answer, AllocError>
+    ensures { IfOk result (IsFormPage Success) }
+{
     create_page(alloc, Status::Success, b"", b"", token, NO_FAULT)
 }
 
@@ -135,7 +150,9 @@ pub enum FormStep {
     Order(FormOrder, FilledForm),
 }
 
-fn text_at<'a>(pairs: &'a [Pair], name: &str) -> &'a str {
+fn text_at<'a>(pairs: &'a [Pair], name: &str) -> &'a str
+    ensures { result.now ≡ text_in name.now (texts_of pairs.now) }
+{
     first_named(pairs, name).unwrap_or("")
 }
 
@@ -158,7 +175,9 @@ fn fault_page(
     pairs: &[Pair],
     token: &[u8],
     fault: Fault<'static>,
-) -> Result<Answer, AllocError> {
+) -> Result<Answer, AllocError>
+    ensures { IfOk result (λ page. (status : Status) × IsFormPage status page) }
+{
     if fault.field == Field::Top {
         return refused_page(
             alloc,
@@ -186,7 +205,9 @@ fn name_in(
     alloc: Global,
     place: &FormPlace,
     pairs: &[Pair],
-) -> Result<Result<Name, Fault<'static>>, AllocError> {
+) -> Result<Result<Name, Fault<'static>>, AllocError>
+    ensures { IfOk result (λ read. IfOk read (λ name. name ≡ about place.now (texts_of pairs.now))) }
+{
     let octets = match place {
         FormPlace::Edit(name) => name.sent(),
         FormPlace::New => text_at(pairs, "handle").as_bytes(),
@@ -203,7 +224,10 @@ fn take_filled(
     name: Name,
     form: FilledForm,
     pairs: &[Pair],
-) -> Result<FormStep, AllocError> {
+) -> Result<FormStep, AllocError>
+    requires said { draft_in (texts_of pairs.now) ≡ Ok form.draft }
+    ensures { IfOk result (IsStep (IsOrderOf name (texts_of pairs.now))) }
+{
     let Some(key) = first_named(pairs, "key") else {
         return Ok(FormStep::Page(confirm_page(alloc, Status::Success, &form, NO_FAULT)?));
     };
@@ -228,7 +252,9 @@ fn take_fields(
     place: &FormPlace,
     pairs: &[Pair],
     token: Vec<u8>,
-) -> Result<FormStep, AllocError> {
+) -> Result<FormStep, AllocError>
+    ensures { IfOk result (IsStep (IsOrderOf (about place.now (texts_of pairs.now)) (texts_of pairs.now))) }
+{
     let name = match name_in(alloc, place, pairs)? {
         Ok(name) => name,
         Err(fault) => return Ok(FormStep::Page(fault_page(alloc, place, pairs, &token, fault)?)),
@@ -254,7 +280,10 @@ pub fn refuse_foreign(
     alloc: Global,
     place: &FormPlace,
     sender: Sender<'_>,
-) -> Result<Option<Answer>, AllocError> {
+) -> Result<Option<Answer>, AllocError>
+    ensures own { is_own (option_copied sender.entry.site) (option_copied sender.entry.origin) (option_copied sender.entry.host) ≡ true → IfOk result (λ page. page ≡ None) }
+    ensures foreign { is_own (option_copied sender.entry.site) (option_copied sender.entry.origin) (option_copied sender.entry.host) ≡ false → IfOk result (λ page. IsSomeAnd page (IsFormPage Forbidden)) }
+{
     if is_own(sender) {
         return Ok(None);
     }
@@ -265,18 +294,18 @@ pub fn refuse_foreign(
 }
 
 /// The page that refuses a form that didn't come whole.
-pub fn refuse_unread(
-    alloc: Global,
-    place: &FormPlace,
-    status: Status,
-) -> Result<Answer, AllocError> {
+pub fn refuse_unread(alloc: Global, place: &FormPlace, status: Status) -> Result<Answer, AllocError>
+    ensures { IfOk result (IsFormPage status) }
+{
     let why = "This form didn't arrive whole";
     let advice =
         "Nothing was done. It may have at most 1048576 bytes, and must arrive within 10 seconds.";
     refused_page(alloc, status, why, advice, place.address())
 }
 
-fn outdated(alloc: Global, place: &FormPlace) -> Result<FormStep, AllocError> {
+fn outdated(alloc: Global, place: &FormPlace) -> Result<FormStep, AllocError>
+    ensures { IfOk result (IsStep (λ _ _. ⊥)) }
+{
     let why = "This form is too old";
     let advice =
         "Nothing was done. A form can be sent for an hour, and until the server starts again.";
@@ -284,11 +313,13 @@ fn outdated(alloc: Global, place: &FormPlace) -> Result<FormStep, AllocError> {
 }
 
 /// The fields of a form's body. One that isn't text has none.
-fn fields_of(alloc: Global, body: &[u8]) -> Result<Vec<Pair>, AllocError> {
-    match str::from_utf8(body) {
-        Ok(text) => read_pairs(alloc, text),
-        Err(_) => Ok(Vec::new(alloc)),
-    }
+fn fields_of(alloc: Global, body: &[u8]) -> Result<Vec<Pair>, AllocError>
+    ensures { IfOk result (λ pairs. texts_of pairs.items ≡ fields_of body.now) }
+{
+    let Ok(text) = str::from_utf8(body) else {
+        return Ok(Vec::new(alloc));
+    };
+    read_pairs(alloc, text)
 }
 
 /// What is next for a form of this site: it is refused where its token isn't one of this process for this, not older than an hour. Then its first fault is shown beside its field. A form without a key is shown again to be confirmed, and one with a key is an order.
@@ -297,7 +328,10 @@ pub fn take_form(
     tokens: &TokenKey,
     place: &FormPlace,
     sent: SentForm<'_>,
-) -> Result<FormStep, AllocError> {
+) -> Result<FormStep, AllocError>
+    ensures step { IfOk result (IsStep (IsOrderOf (about place.now (fields_of sent.entry.body.now)) (fields_of sent.entry.body.now))) }
+    ensures guarded { IfOk result (IsStep (λ _ _. accepts tokens.now (subject_of place.now) sent.entry.now (text_in (codes "token") (fields_of sent.entry.body.now)) ≡ true)) }
+{
     let pairs = fields_of(alloc, sent.body)?;
     let token = text_at(&pairs, "token").as_bytes();
     if !tokens.accepts(alloc, place.subject(), sent.now, token)? {
@@ -331,7 +365,9 @@ fn field_of(status: Status, code: Option<u64>) -> Field {
 }
 
 /// The status of a page: a browser would ask for a password by itself at 401.
-fn page_status(status: Status) -> Status {
+fn page_status(status: Status) -> Status
+    ensures { result ≡ page_status status }
+{
     match status {
         Status::Unauthorized => Status::Forbidden,
         other => other,
@@ -339,11 +375,9 @@ fn page_status(status: Status) -> Status {
 }
 
 /// The page of what came of a form's order: that it was done, or the form again with what the answer in JSON says.
-pub fn result_page(
-    alloc: Global,
-    form: &FilledForm,
-    answer: &Answer,
-) -> Result<Answer, AllocError> {
+pub fn result_page(alloc: Global, form: &FilledForm, answer: &Answer) -> Result<Answer, AllocError>
+    ensures { IfOk result (IsFormPage (page_status answer.now.status)) }
+{
     if matches!(answer.status, Status::Success | Status::Created) {
         return done_page(alloc, answer.status, form);
     }

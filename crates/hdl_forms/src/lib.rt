@@ -3,7 +3,7 @@
 //! ```text
 //! method, path, query -> form_at -> FormPlace
 //! GET:  form_question, a server's reply -> edit_page; or new_page
-//! POST: the body -> take_form -> FormStep::Page, or FormStep::Order -> carry_out (hdl_writes) -> result_page
+//! POST: the body -> take_form -> FormStep::Page, or FormStep::Order -> carry_form -> a page
 //! ```
 //!
 //! A change takes two forms: the first says what shall stand there, the second shows old and new, and has the key and its secret. A form is taken
@@ -13,7 +13,7 @@
 //! what they give holds it in the order alone.
 //!
 //! What it promises: `specs/Draft.antt` defines the change that a form says (`draft_in`), `specs/Change.antt` the order that it is, which names that value
-//! alone, and its JSON; `specs/Token.antt` which tokens are accepted; and `specs/Template.antt` that a page is markup of this crate with text escaped in its holes.
+//! alone, and its JSON; `specs/Guarded.antt` that it is carried out only if that value is still as the form showed it ([`carry_form`]); `specs/Token.antt` which tokens are accepted; and `specs/Template.antt` that a page is markup of this crate with text escaped in its holes.
 //!
 //! ```rust
 //! // crates/hdl_web/src/gathering.rt
@@ -25,6 +25,7 @@ mod change;
 mod draft;
 mod fault;
 mod forms;
+mod guarded;
 mod markup;
 mod offer;
 mod origin;
@@ -38,6 +39,7 @@ pub use forms::{
     FormPlace, FormStep, SentForm, edit_page, form_at, form_question, new_page, refuse_foreign,
     refuse_unread, result_page, take_form,
 };
+pub use guarded::carry_form;
 pub use offer::{Offer, with_offer};
 pub use origin::{Sender, is_own};
 pub use pages::FilledForm;

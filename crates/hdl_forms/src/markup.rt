@@ -89,6 +89,14 @@ const SHOWN: &str = "<h1>$</h1>
 <dl class=\"pair\"><div><dt>$</dt><dd dir=\"auto\">$</dd></div><div><dt>$</dt><dd dir=\"auto\">$</dd></div></dl>
 ";
 
+/// A value that someone else changed meanwhile: handle, type, index; the text that the form showed, the text now, the text of the form.
+const CHANGED: &str = "<h1>Someone else changed this value</h1>
+<p class=\"name\" dir=\"auto\">$</p>
+<p>Nothing was done. You can still make your change: the TTL and the permissions stay as they are now.</p>
+<p><bdi>$</bdi> <small>$</small></p>
+<dl class=\"pair\"><div><dt>Your form showed</dt><dd dir=\"auto\">$</dd></div><div><dt>Now</dt><dd dir=\"auto\">$</dd></div><div><dt>Your change</dt><dd dir=\"auto\">$</dd></div></dl>
+";
+
 /// Below a change before it is made: `edit` or `new`; token, task, index, type, TTL, permissions, before, after, handle; fault; fault of the
 /// key, of the secret; button; `edit` or `new`.
 const CONFIRM: &str = "<form class=\"fields\" action=\"?$\" method=\"post\" autocomplete=\"off\">
@@ -134,6 +142,7 @@ pub(crate) enum Template {
     Gone,
     Create,
     Shown,
+    Changed,
     Confirm,
     Done,
     Refused,
@@ -151,6 +160,7 @@ impl Template {
             Template::Gone => GONE,
             Template::Create => CREATE,
             Template::Shown => SHOWN,
+            Template::Changed => CHANGED,
             Template::Confirm => CONFIRM,
             Template::Done => DONE,
             Template::Refused => REFUSED,

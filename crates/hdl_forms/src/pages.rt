@@ -7,6 +7,7 @@ use crate::draft::{Draft, GONE, Task, URL, are_printed, is_type};
 use crate::fault::{Fault, Field, NO_FAULT};
 use crate::markup::Template;
 use crate::template::{FormPage, Texts};
+use hdl_limits::Octets;
 use hdl_lines::permission_digits;
 use hdl_proxy::{Answer, Keeping, Media, Status, is_shown, path_of};
 use hdl_value::Value;
@@ -353,6 +354,57 @@ pub(crate) fn confirm_page(
     let page = with_change(alloc, heading, form, "Now", "Then")?;
     let page = with_key_fields(alloc, page, form, fault)?;
     answer_of(alloc, status, heading, b"", page)
+}
+
+/// The change that can still be made, now that the value isn't as the form showed it: of the same type at least, and one that forms change. If the value is gone, it is added. A value that is gone can't be removed.
+fn draft_of_now(alloc: Global, draft: Draft, there: Option<Value>) -> Option<Draft> {
+    match there {
+        Some(value) if is_editable(&value) && value.kind.as_slice() == draft.kind.as_slice() =>
+            Some(Draft {
+                ttl: seconds_of(&value),
+                permissions: value.permissions,
+                old: value.bytes,
+                ..draft
+            }),
+        None if draft.task == Task::Change => Some(Draft {
+            task: Task::Add,
+            old: Octets::new(Vec::new(alloc)),
+            ..draft
+        }),
+        _ => None,
+    }
+}
+
+/// The page of a change whose value someone else changed meanwhile: what the form showed, what is there now, and the change, which can still be made.
+pub(crate) fn conflict_page(
+    alloc: Global,
+    form: FilledForm,
+    there: Option<Value>,
+) -> Result<Answer, AllocError>
+    ensures { IfOk result (IsFormPage Status.Conflict) }
+{
+    let FilledForm { name, draft, token } = form;
+    let shown = Vec::from_slice(alloc, draft.old.as_slice())?;
+    let Some(draft) = draft_of_now(alloc, draft, there) else {
+        let why = "Someone else changed this value";
+        let advice = "Nothing was done. It was removed, or is now one that this form can't change.";
+        return refused_page(alloc, Status::Conflict, why, advice, "?edit");
+    };
+    let texts = Texts::new(alloc).and(&name)?;
+    let texts = texts.and(draft.kind.as_slice())?.and_number(draft.index)?;
+    let texts = texts.and(or_nothing(&shown))?;
+    let texts = texts.and(or_nothing(draft.old.as_slice()))?;
+    let texts = texts.and(or_nothing(draft.text.as_slice()))?;
+    let page = FormPage::new(alloc).with(Template::Changed, texts)?;
+    let form = FilledForm { name, draft, token };
+    let page = with_key_fields(alloc, page, &form, NO_FAULT)?;
+    answer_of(
+        alloc,
+        Status::Conflict,
+        "Changed meanwhile: ",
+        &form.name,
+        page,
+    )
 }
 
 /// The page that says that a change was made.

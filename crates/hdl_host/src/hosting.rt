@@ -18,22 +18,24 @@ use hdl_rows::PlainRows;
 use hdl_serve::{Clock as Pauses, LaneEnds, WorkerEnd, WorkerSide, lanes_of, serve};
 use hdl_sockets::{Crowd, MachineClock, Part, Patience, Sleep};
 use std::alloc::Global;
-use std::fs;
 use std::fs::Files;
 use std::io::Write;
 use std::net::{Net, TcpListener, TcpStream};
 use std::random::RandomSource;
 use std::rt::Clock;
 use std::thread::{JoinHandle, Threads};
+use std::{fs, mem};
 
 /// How many items a lane's ring has room for, each way.
 const RING: usize = 16;
 
-/// The sleep of the thread that serves, the sockets of each publisher, the lines that tell where they are, and the sockets at which the server is watched.
+/// The sleep of the thread that serves, the sockets of each publisher, what is said once all of them listen and the lines that tell where they are, and the sockets at which the server is
+/// watched.
 #[derive(Drop)]
 struct Opened {
     sleep: Sleep,
     places: Vec<PublisherSockets<Crowd>>,
+    begins: String,
     lines: String,
     supervised: Supervised,
 }
@@ -46,16 +48,17 @@ struct Ready {
     sides: Vec<WorkerSide>,
     queue: WriteQueue,
     opened: Opened,
-    watchman: Option<Watchman>,
+    watchman: Watchman,
     turns: u64,
     ghost distinct: { AreDistinct ends.items },
 }
 
-/// The bounds of publishers, and who hears that one is reached.
+/// The bounds of publishers, who hears that one is reached, and whether changes are taken.
 #[derive(Drop)]
 struct Limited {
     bounds: Vec<Bound>,
     notices: Notices,
+    takes_changes: bool,
 }
 
 /// Listens for each publisher, and for those who watch the server.
@@ -69,9 +72,11 @@ fn open_sockets<R: Net<Listener = TcpListener, Stream = TcpStream> + Clock + Fil
     let sleep = or_device(Sleep::new(rt, alloc, most))?;
     let (places, lines) = places_of(rt, alloc, tenants, setting)?;
     let supervised = supervise(rt, alloc, &mut setting.supervision, places.as_slice())?;
+    let begins = mem::replace(&mut setting.supervision.begins, String::new(alloc));
     Ok(Opened {
         sleep,
         places,
+        begins,
         lines,
         supervised,
     })
@@ -98,7 +103,7 @@ fn ready_in<R: Net<Listener = TcpListener, Stream = TcpStream> + Clock + Files>(
     })
 }
 
-/// Makes the lanes of the tenants and listens for each publisher. With what is ready come the bounds of publishers and who hears of them, and the path of the socket at which
+/// Makes the lanes of the tenants and listens for each publisher. With what is ready come the limits of changes, and the path of the socket at which
 /// the word to end is taken: all else of a setting ends here, so that who opens a table owns little.
 fn ready_for<R: Net<Listener = TcpListener, Stream = TcpStream> + Clock + Files>(
     rt: &R,
@@ -109,11 +114,16 @@ fn ready_for<R: Net<Listener = TcpListener, Stream = TcpStream> + Clock + Files>
     let ready = ready_in(rt, alloc, tenants, &mut setting)?;
     let Setting {
         bounds,
+        takes_changes,
         supervision,
         ..
     } = setting;
-    let notices = Notices::new(supervision.bounds);
-    Ok((ready, Limited { bounds, notices }, supervision.control))
+    let limited = Limited {
+        bounds,
+        notices: Notices::new(supervision.bounds),
+        takes_changes,
+    };
+    Ok((ready, limited, supervision.control))
 }
 
 /// What serves lanes on the calling thread, until each of them ended or the turns are spent.
@@ -204,12 +214,14 @@ fn run_workers<
     Ok(service)
 }
 
-/// Tells where it listens, serves, and gives back what served.
+/// Says that serving begins, tells where it listens, serves, and gives back what served.
 fn tell_and_serve<
     R: Threads + Clock + RandomSource + Files + Eprint + Copy + Send + Drop + 'static,
     S: Serving + Drop,
     W: Write,
 >(rt: &R, alloc: Global, service: S, ready: Ready, output: &mut W) -> Result<S, Fault> {
+    let begins = ready.opened.begins.as_str();
+    let _ = eprint!(rt; "{begins}");
     put_all(output, ready.opened.lines.as_bytes())?;
     run_workers(rt, alloc, service, ready)
 }
@@ -222,7 +234,16 @@ fn opening_fault(fault: OpenFault) -> Fault {
     }
 }
 
-/// The service of the tenants over an empty table within these bounds.
+/// The service, which takes changes or none.
+fn taking<T: Owing + Drop>(service: Service<T>, takes_changes: bool) -> Service<T> {
+    if takes_changes {
+        service
+    } else {
+        service.into_read_only()
+    }
+}
+
+/// The service of the tenants over an empty table within these limits.
 fn open_within<T: Owing + Drop>(
     alloc: Global,
     rows: T,
@@ -231,34 +252,42 @@ fn open_within<T: Owing + Drop>(
 ) -> Result<Service<BoundedRows<T, Notices>>, Fault>
     requires empty { T.content rows ≡ no_rows }
 {
-    let Limited { bounds, notices } = limited;
+    let Limited {
+        bounds,
+        notices,
+        takes_changes,
+    } = limited;
     let Ok(rows) = BoundedRows::new(alloc, rows, bounds, notices) else {
         return Err(Fault::StoreRefused);
     };
     match Service::open(alloc, tenants, rows) {
-        Ok(service) => Ok(service),
+        Ok(service) => Ok(taking(service, takes_changes)),
         Err(fault) => Err(opening_fault(fault)),
     }
 }
 
-/// The service of the tenants over a table that is there already, within these bounds.
+/// The service of the tenants over a table that is there already, within these limits.
 fn resume_within<T: Owing + Drop>(
     alloc: Global,
     rows: T,
     limited: Limited,
     tenants: Tenants,
 ) -> Result<Service<BoundedRows<T, Notices>>, Fault> {
-    let Limited { bounds, notices } = limited;
+    let Limited {
+        bounds,
+        notices,
+        takes_changes,
+    } = limited;
     let Ok(rows) = BoundedRows::new(alloc, rows, bounds, notices) else {
         return Err(Fault::StoreRefused);
     };
     match Service::resume(alloc, tenants, rows) {
-        Ok(service) => Ok(service),
+        Ok(service) => Ok(taking(service, takes_changes)),
         Err(fault) => Err(opening_fault(fault)),
     }
 }
 
-/// Opens the service of the tenants over an empty table within these bounds, tells where it listens, and serves.
+/// Opens the service of the tenants over an empty table within these limits, tells where it listens, and serves.
 fn open_and_serve<
     R: Threads + Clock + RandomSource + Files + Eprint + Copy + Send + Drop + 'static,
     T: Owing + Drop,
@@ -279,7 +308,7 @@ fn open_and_serve<
     Ok(())
 }
 
-/// Resumes the service of the tenants over a table that is there already, within these bounds, tells where it listens, serves, and gives the table back.
+/// Resumes the service of the tenants over a table that is there already, within these limits, tells where it listens, serves, and gives the table back.
 fn resume_and_serve<
     R: Threads + Clock + RandomSource + Files + Eprint + Copy + Send + Drop + 'static,
     T: Owing + Drop,
@@ -306,7 +335,7 @@ fn leave_control<R: Files>(rt: &R, path: &Option<String>) {
     }
 }
 
-/// Serves the tenants over an empty table within the bounds of the setting, until each worker ended or the turns are spent. The lines that
+/// Serves the tenants over an empty table within the bounds of the setting, until each worker ended or the turns are spent. What begins is said and the lines that
 /// tell where are written once all sockets listen, and before a worker starts.
 ///
 /// Refusals: memory, the table's refusal of an opening row, `Listen` where a port can't be had at one of the addresses, and `Device` where

@@ -26,7 +26,9 @@ mod watching;
 
 pub use bounds::{Notices, notices_of};
 pub use hdl_boundedrows::{Amount, Bound};
-pub use hdl_listeners::{AMPLIFY, HostFault, Limits, STOP, Setting, Supervision, descriptors_for};
+pub use hdl_listeners::{
+    AMPLIFY, HostFault, Limits, REOPEN, STOP, Setting, Supervision, descriptors_for,
+};
 pub use hdl_sockets::Ending;
-pub use hdl_telemetry::{FileChange, FileWatch, Health, Log, Notice};
+pub use hdl_telemetry::{FileChange, FileWatch, Health, Log, LogFile, Notice};
 pub use hosting::{host, host_resumed, host_tenants};

@@ -1,49 +1,65 @@
-//! The clock of the thread that serves, which looks at the table's file while it has nothing to do.
+//! The clock of the thread that serves, which looks at files and at the process while it has nothing to do.
 
 use hdl_listeners::Supervision;
 use hdl_serve::Clock as Pauses;
 use hdl_sockets::MachineClock;
-use hdl_telemetry::{FileWatch, Health};
+use hdl_telemetry::{FileWatch, Health, LogFile, Vitals};
 use std::alloc::AllocError;
 use std::fs::Files;
 use std::rt::Clock;
 use std::sync::Arc;
 use std::time::{Duration, Instant};
 
-/// Seconds between two looks at the file.
+/// Seconds between two looks.
 const PAUSE: u64 = 2;
 
-/// The table's file, and what is informed if the file was moved or changed.
+/// The table's file and that of the log, if there are any, and what is informed of what is seen.
 #[derive(Drop)]
 pub struct Watchman {
-    file: FileWatch,
+    file: Option<FileWatch>,
+    log: Option<LogFile>,
     health: Arc<Health>,
+    vitals: Arc<Vitals>,
 }
 
-/// The watchman of the table's file, if it has one.
-pub fn watchman_of(supervision: &mut Supervision) -> Result<Option<Watchman>, AllocError> {
-    match supervision.file.take() {
-        Some(file) => Ok(Some(Watchman {
-            file,
-            health: Arc::try_clone(&supervision.health)?,
-        })),
-        None => Ok(None),
+/// The watchman of the files.
+pub fn watchman_of(supervision: &mut Supervision) -> Result<Watchman, AllocError> {
+    Ok(Watchman {
+        file: supervision.file.take(),
+        log: supervision.log_file.take(),
+        health: Arc::try_clone(&supervision.health)?,
+        vitals: Arc::try_clone(&supervision.vitals)?,
+    })
+}
+
+impl Watchman {
+    /// Looks at the files and at the process, and opens the log anew if that was asked for.
+    fn look<R: Files>(&mut self, rt: &R) {
+        if let Some(file) = &self.file {
+            self.health.see_file(file.loss(rt));
+            let (octets, log) = file.sizes(rt);
+            self.vitals.set_sizes(octets, log);
+        }
+        if let Some(log) = &mut self.log {
+            log.open_if_asked();
+        }
+        self.vitals.look(rt);
     }
 }
 
-/// A machine's clock, at whose pauses the table's file is looked at now and then.
+/// A machine's clock, at whose pauses the watchman looks now and then.
 #[derive(Drop)]
 pub struct WatchingClock<R> {
     rt: R,
     clock: MachineClock<R>,
-    watchman: Option<Watchman>,
+    watchman: Watchman,
     /// When it was looked last.
     looked: Option<Instant>,
 }
 
 impl<R: Clock + Files> WatchingClock<R> {
     /// This clock, and who looks.
-    pub fn new(rt: R, clock: MachineClock<R>, watchman: Option<Watchman>) -> WatchingClock<R> {
+    pub fn new(rt: R, clock: MachineClock<R>, watchman: Watchman) -> WatchingClock<R> {
         WatchingClock {
             rt,
             clock,
@@ -67,13 +83,10 @@ impl<R: Clock + Files> WatchingClock<R> {
         is_due
     }
 
-    /// Looks at the file, if there is one and it is time.
+    /// Has the watchman look, if it is time.
     fn look(&mut self) {
-        if self.watchman.is_none() || !self.is_due() {
-            return;
-        }
-        if let Some(watchman) = &self.watchman {
-            watchman.health.see_file(watchman.file.loss(&self.rt));
+        if self.is_due() {
+            self.watchman.look(&self.rt);
         }
     }
 }

@@ -3,7 +3,7 @@ use Rattle.std.specs.Prelude.{◌≡◌, ◌⊎◌, Bool, true, false, Option, N
 use Rattle.hdl_rows.specs.Table.{Table, IsPlaced}
 use Rattle.hdl_rows.specs.Write.{Write, CanWrite, after_write}
 use Rattle.hdl_lastingrows.specs.Inverse.{IsUndo}
-use Rattle.hdl_lastingrows.specs.Lasting.{Standing, Keeps, Makes, Doubts}
+use Rattle.hdl_lastingrows.specs.Lasting.{Standing, Keeps, Makes, Doubts, Lasting}
 use Rattle.hdl_lastingrows.specs.Writes.{write_in}
 use Rattle.hdl_lastingrows.specs.declared.pending.Pending.{Pending}
 use Rattle.hdl_lastingrows.specs.declared.pending.Pending.TheVariants.{Nothing, Begun, Ahead, Undoing, Unknown, UndoUnknown}
@@ -58,6 +58,13 @@ pub record StandsBeside (stands : Standing → Type 0) (t : Table) (p : Pending)
   pub placed : IsPlaced t
   pub allowed : IsAllowed t p
   pub file : stands (standing t p)
+
+-- The file stands beside the table as this pending write says: it is the one that is owed, and says whether the table is shut.
+pub record StandsBy {F : Type 0} (stands : F → Standing → Type 0) (l : Lasting F) : Type 0 where
+  pub pending : Pending
+  pub owed : l.owed ≡ owed_by pending
+  pub shut : l.is_shut ≡ is_unknown pending
+  pub beside : StandsBeside (stands l.file) l.table pending
 
 -- what is owed behind a call that was refused: what was before, or no write, or the write of the call
 abbrev pub OwesAtMost : Option Write → Write → Option Write → Type 0

@@ -13,9 +13,9 @@ pub enum TableFault {
     InUse,
     #[error("table: cannot open: the file can't be made, or isn't a regular file that this user may read and write; check the path, its folder and their permissions")]
     CannotOpen,
-    #[error("table: damaged: the file is not a SQLite database, or its pages or log are damaged; restore a copy")]
+    #[error("table: damaged: the file is not a SQLite database, or a page, its checksum or the log is wrong (a sqlite3 without checksums spoils them by writing); restore a copy")]
     Damaged,
-    #[error("table: another layout: the file is a SQLite database, but not one of this program; name another file")]
+    #[error("table: another layout: the file is a SQLite database, but not one of this program, or it was copied without its log; name another file, and make copies by handled copy")]
     Layout,
     /// A row that no write of this program makes.
     #[error("table: unsound row: {0}; correct the row, or restore a copy")]

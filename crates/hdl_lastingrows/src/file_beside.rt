@@ -123,7 +123,7 @@ impl<F: Filing + Drop, A: Alarm + Drop> FileBeside<F, A> {
         let Ok(undo) = inverse_of(self.alloc, rows, &own) else {
             return Pending::Ahead(own);
         };
-        let state = self.file.begin(&undo.as_write());
+        let state = self.file.undo(&undo.as_write());
         behind_undo(own, undo, state)
     }
 

@@ -48,6 +48,15 @@ pub trait Filing {
         ensures left { (t : Table) → stands self.old (Makes t (write_of write.now)) → stands self.new (left_by t (write_of write.now) result) }
         ensures beside { is_beside self.new ≡ is_beside self.old };
 
+    /// Makes the write, or begins to, which undoes one that memory refused. A file that others read refuses, and the other write stays ahead of memory.
+    fn undo(&mut self, write: &Write<'_>) -> WriteState
+        requires can { (t : Table) × stands self.old (Keeps t) × CanWrite t (write_of write.now) }
+        ensures left { (t : Table) → stands self.old (Keeps t) → CanWrite t (write_of write.now) → stands self.new (left_by t (write_of write.now) result) }
+        ensures beside { is_beside self.new ≡ is_beside self.old }
+    {
+        self.begin(write)
+    }
+
     /// Whether it hands writes over. Else each write is made by its call.
     fn hands_over(&self) -> bool
         ensures { result ≡ is_beside self.now };

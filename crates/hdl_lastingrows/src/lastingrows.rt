@@ -12,7 +12,7 @@ ghost use Rattle.hdl_sqlrows.specs.Filed.{WhereOpen, CrashLeaves};
 ghost use Rattle.hdl_sqlrows.specs.Stored.{table_in};
 ghost use Rattle.hdl_lastingrows.specs.declared.pending.Pending.TheVariants.{Nothing};
 ghost use Rattle.hdl_lastingrows.specs.Lasting.{Keeps, IsNear, debt_of};
-ghost use Rattle.hdl_lastingrows.specs.Pending.{StandsBeside, OwesAtMost, OwesAfter, owed_by, ahead_by};
+ghost use Rattle.hdl_lastingrows.specs.Pending.{StandsBeside, StandsBy, OwesAtMost, OwesAfter, owed_by, ahead_by};
 ghost use Rattle.hdl_lastingrows.specs.Beside.{MayLeave, IfHere};
 ghost use Rattle.hdl_lastingrows.specs.Writes.{write_of};
 
@@ -141,6 +141,13 @@ impl<R: Rows + Drop, F: Filing + Drop, A: Alarm + Drop> LastingRows<R, F, A> {
         ensures { result ≡ self.now.is_shut }
     {
         self.beside.pending.is_shut()
+    }
+
+    /// What is known of the file, whatever it is: it stands beside the table as some pending write says, which is the one that is owed.
+    pub fn stands_beside(&self)
+        ensures { StandsBy F.stands self.now }
+    {
+        let _refusals = self.refusals;
     }
 
     /// The file.

@@ -13,7 +13,7 @@
 //! |---|---|---|---|
 //! | nothing | the file has just what memory has | begins its write | begins its write |
 //! | begun | a thread makes the write, or it failed and the store couldn't be asked | ends it, unless it goes on | ends it, unless it goes on |
-//! | ahead | the file has the write, memory refused it so far | memory is tried again | begins to undo it in the file |
+//! | ahead | the file has the write, memory refused it so far | memory is tried again | begins to undo it in the file, unless the file refuses |
 //! | undoing | the file has the write, and its inverse was begun | ends the undo, unless it goes on | ends the undo, unless it goes on |
 //! | unknown | the store has shut, with the write or without it | refused for good | refused for good |
 //!
@@ -37,7 +37,7 @@
 //! - **Whether the store has shut is asked of it** after a write that failed: the kit's connection has no other call for it than a statement that
 //!   is refused. Where memory for that statement is refused nothing is known yet: the write stays begun, and the store is asked again.
 //! - **A write that nobody comes for is undone in the file,** and not made in memory: the call that was refused was told that nothing changed, and the
-//!   call that comes was decided over the table as it is.
+//!   call that comes was decided over the table as it is. A file that other servers read refuses that ([`Filing::undo`]): the write stays owed.
 //! - **A thread and the file share one flag**, by which the thread says that it is done. No clause rests on it: behind it the thread is joined.
 #![tactic(auto)]
 

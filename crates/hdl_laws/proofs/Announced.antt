@@ -16,7 +16,7 @@ use Rattle.hdl_msg.specs.Reading.{reply_at}
 use Rattle.hdl_value.specs.Spelling.{string}
 use Rattle.hdl_msg.specs.declared.codes.OpCode.TheVariants.{GetSiteInfo}
 use Rattle.hdl_msg.specs.Message.{Content, Operation, resolution, site_info, create, delete, add, remove, modify, list, response, other, code_of, SpellsRequest, IsShort, header_octets}
-use Rattle.hdl_msg.specs.Reply.{reply_body, reply_message, reply_octets, short_reply, ReplyParts, reply_parts, parts_body, IsAnnounced, parts_message, parts_read, PartsFit, SpellsReply, content_read, digest_octets, wire_of_content}
+use Rattle.hdl_msg.specs.Reply.{reply_body, reply_message, reply_octets, short_reply, ReplyParts, reply_parts, parts_body, IsAnnounced, announced_form, parts_message, parts_read, PartsFit, SpellsReply, content_read, digest_octets, wire_of_content}
 use Rattle.hdl_msg.proofs.ReplyReadings.{reply_again, short_reply_spelt_lem}
 use Rattle.hdl_msg.proofs.Seen.{own_wire, same_content, same_form, same_wire}
 use Rattle.hdl_pool.specs.Taking.{take_piece, free_partial, whole_message}
@@ -27,14 +27,14 @@ use Rattle.hdl_ops.specs.Admission.{request_algorithm}
 use Rattle.hdl_ops.specs.Decisions.{Anyone, Proven, Decision, site_decision, Decides}
 use Rattle.hdl_ops.specs.Requests.{Response, response_of}
 use Rattle.hdl_ops.specs.Replies.{reply_to, challenge_to}
-use Rattle.hdl_ops.proofs.Announced.{answer_announced_lem, protocol_error_announced, timeout_announced, challenge_announced_lem, proven_code}
+use Rattle.hdl_ops.proofs.Announced.{digest_announced, answer_announced_lem, protocol_error_announced, timeout_announced, challenge_announced_lem, proven_code}
 use Rattle.hdl_ops.proofs.SiteDecisions.{site_announced}
 use Rattle.hdl_events.specs.declared.What.{What}
 use Rattle.hdl_events.specs.declared.What.TheVariants.{Open, Bad, Close}
 use Rattle.hdl_laws.specs.Lanes.{LaneState, with_partials}
 use Rattle.hdl_laws.specs.Speech.{Speech}
 use Rattle.hdl_laws.specs.Worlds.{World, hosts, algorithms, owner, lane_of, speech}
-use Rattle.hdl_laws.specs.Tasks.{Received, Message, message_from, Task, Ignore, Break, Malformed, Unknown, Late, Ask, Inform, Redeem, told_site, ask_task, is_late, without_challenge, redeem_task, IsReading, IsResponseTask, IsRequestTask, IsContentTask, IsMessageTask, IsWholeTask, IsFrameTask, IsOctetsTask, IsTask}
+use Rattle.hdl_laws.specs.Tasks.{Received, Message, message_from, Task, Ignore, Break, Malformed, Unknown, Late, Deny, Ask, Inform, Redeem, told_site, ask_task, is_denied, is_late, without_challenge, due_task, redeem_task, IsReading, IsResponseTask, IsRequestTask, IsContentTask, IsMessageTask, IsWholeTask, IsFrameTask, IsOctetsTask, IsTask}
 use Rattle.hdl_laws.specs.Effects.{Effect, Does, answer_effect, challenge_effect}
 use Rattle.hdl_laws.specs.Steps.{Turn, IsAnswerFor, IsStep}
 use Rattle.hdl_laws.specs.Reveals.{IsSelfTold, sent_by, StepsAnnounce}
@@ -91,15 +91,19 @@ either : {A B P : Type 0} (b : Bool) → (A → P) → (B → P) → MatchBool b
 either true f g x = f x
 either false f g x = g x
 
-redeem_coded : (w : Wire) (s : LaneState) (m : Message) (a : Response) (p : Pending) (o : Option Content) → IsReading (SpellsRequest w p.message) o → CodedTask (redeem_task s m a p o)
+redeem_coded : (w : Speech) (s : LaneState) (m : Message) (a : Response) (p : Pending) (o : Option Content) → IsReading (SpellsRequest w.wire p.message) o → CodedTask (redeem_task w.takes_changes s m a p o)
 redeem_coded w s m a p None h = tt
-redeem_coded w s m a p (Some r) h = by (is_late m p)
+redeem_coded w s m a p (Some r) h = denied (is_denied w.takes_changes r.operation)
   where
     by : (b : Bool) → CodedTask (cond {A = Task} b (Late m r (algorithm_of p.digest) (without_challenge s m)) (Redeem m r (record { response = a; nonce = p.nonce; digest = p.digest }) (without_challenge s m)))
     by true = tt
     by false = h.has_code
 
-response_coded : (w : Wire) (s : LaneState) (m : Message) (r : Content) (a : Response) (o : Option Pending) (k : Task) → IsResponseTask w s m r a o k → CodedTask k
+    denied : (b : Bool) → CodedTask (cond {A = Task} b (Deny m r (without_challenge s m)) (due_task (without_challenge s m) m a p r))
+    denied true = tt
+    denied false = by (is_late m p)
+
+response_coded : (w : Speech) (s : LaneState) (m : Message) (r : Content) (a : Response) (o : Option Pending) (k : Task) → IsResponseTask w s m r a o k → CodedTask k
 response_coded w s m r a None k is = subst CodedTask (sym is) tt
 response_coded w s m r a (Some p) k is = subst CodedTask (sym is.2) (redeem_coded w s m a p is.0 is.1)
 
@@ -118,8 +122,12 @@ asked_coded s m r site (response kind handle index answer) is has = has
 asked_coded s m r site (other octets) is has = has
 
 request_coded : (w : Speech) (s : LaneState) (m : Message) (r : Content) (o : Option Response) (k : Task) → Coded r → IsRequestTask w s m r o k → CodedTask k
-request_coded w s m r None k has is = subst CodedTask (sym is) (asked_coded s m r w.site r.operation refl has)
-request_coded w s m r (Some a) k has is = response_coded w.wire s m r a (challenge_of s.challenges.challenges m.peer m.envelope.session) k is
+request_coded w s m r None k has is = subst CodedTask (sym is) (denied (is_denied w.takes_changes r.operation))
+  where
+    denied : (b : Bool) → CodedTask (cond {A = Task} b (Deny m r s) (ask_task s m r (told_site w.site r.operation)))
+    denied true = tt
+    denied false = asked_coded s m r w.site r.operation refl has
+request_coded w s m r (Some a) k has is = response_coded w s m r a (challenge_of s.challenges.challenges m.peer m.envelope.session) k is
 
 content_coded : (w : Speech) (s : LaneState) (m : Message) (o : Option Content) (k : Task) → IsReading (SpellsRequest w.wire m.message) o → IsContentTask w s m o k → CodedTask k
 content_coded w s m None k h is = subst CodedTask (sym is) tt
@@ -154,6 +162,10 @@ task_coded w s (What.Frame peer moment nonce bytes) k is = either s.is_open (λ 
 
 -- ---- steps
 
+pub denied_announced : (a : Algorithm) (moment session number : ℕ) (r : Content) → IsAnnounced (reply_parts (reply_to a moment session number r 5 Empty))
+unfolding reply_to announced_form
+denied_announced a moment session number r = record { digest = digest_announced a r 5 refl; form = refl }
+
 asked_self : (hosted : List ℕ → Bool) (a : Algorithm) (t : Table) (s : LaneState) (m : Message) (r : Content) (d : Decision) (octets : List ℕ) (b : Bool) → Coded r → d.code == 402 ≡ b → Decides hosted a t r Anyone d
     → sent_by (cond {A = Effect} b (challenge_effect a s m r) (answer_effect a s m r d)).outcome ≡ Some octets → IsSelfTold octets
 asked_self hosted a t s m r d octets true has e decided is =
@@ -172,6 +184,8 @@ does_announce hosted algorithms t (Unknown m r s) eff octets has is e =
     same_octets octets _ (sym (ap sends is) ∙ e) (made_self (reply_to Sha1 m.moment m.envelope.session m.envelope.request r 4 Empty) (protocol_error_announced Sha1 m.moment m.envelope.session m.envelope.request r))
 does_announce hosted algorithms t (Late m r a s) eff octets has is e =
     same_octets octets _ (sym (ap sends is) ∙ e) (made_self (reply_to a m.moment m.envelope.session m.envelope.request r 405 Empty) (timeout_announced a m.moment m.envelope.session m.envelope.request r))
+does_announce hosted algorithms t (Deny m r s) eff octets has is e =
+    same_octets octets _ (sym (ap sends is) ∙ e) (made_self (reply_to (request_algorithm algorithms r) m.moment m.envelope.session m.envelope.request r 5 Empty) (denied_announced (request_algorithm algorithms r) m.moment m.envelope.session m.envelope.request r))
 does_announce hosted algorithms t (Ask m r s) eff octets has is e =
     asked_self hosted (request_algorithm algorithms r) t s m r is.0 octets (is.0.code == 402) has refl is.1 (sym (ap sends is.2) ∙ e)
 does_announce hosted algorithms t (Inform m r site s) eff octets has is e =

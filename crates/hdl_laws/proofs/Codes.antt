@@ -17,7 +17,7 @@ use Rattle.hdl_ops.specs.Decisions.{Anyone, Proven, Decision, failure, site_deci
 use Rattle.hdl_ops.proofs.Codes.{is_answer_code, code_fits, decides_code}
 use Rattle.hdl_ops.proofs.SiteDecisions.{site_code}
 use Rattle.hdl_laws.specs.Lanes.{LaneState}
-use Rattle.hdl_laws.specs.Tasks.{Message, Task, Ignore, Break, Malformed, Unknown, Late, Ask, Inform, Redeem}
+use Rattle.hdl_laws.specs.Tasks.{Message, Task, Ignore, Break, Malformed, Unknown, Late, Deny, Ask, Inform, Redeem}
 use Rattle.hdl_laws.specs.Effects.{Effect, Does, ask_effect, answer_effect, challenge_effect}
 use Rattle.hdl_laws.specs.Isolation.{code_of}
 
@@ -49,6 +49,7 @@ does_code hosted algorithms t (Break session request s) x a = ap has_answer_code
 does_code hosted algorithms t (Malformed m s) x a = ap has_answer_code a ∙ ap is_answer_code (code-short_reply 4 m.envelope (code_fits 4 refl))
 does_code hosted algorithms t (Unknown m r s) x a = ap has_answer_code a ∙ ap is_answer_code (answer_code Sha1 s m r (failure 4 Empty) refl)
 does_code hosted algorithms t (Late m r c s) x a = ap has_answer_code a ∙ ap is_answer_code (answer_code c s m r (failure 405 Empty) refl)
+does_code hosted algorithms t (Deny m r s) x a = ap has_answer_code a ∙ ap is_answer_code (answer_code (request_algorithm algorithms r) s m r (failure 5 Empty) refl)
 does_code hosted algorithms t (Ask m r s) x a =
     let e = decides_code hosted (request_algorithm algorithms r) t r Anyone a.0 a.1 in
     ap has_answer_code a.2 ∙ ap is_answer_code (ask_code (request_algorithm algorithms r) s m r a.0 e) ∙ e

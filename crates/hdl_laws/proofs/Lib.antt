@@ -9,8 +9,10 @@ pub mod Isolation
 pub mod Codes
 pub mod Reveals
 pub mod Announced
+mod Denied
 pub mod Twins
 pub mod TwinRuns
 mod Covers
 mod Calm
+mod Unshared
 mod Limits

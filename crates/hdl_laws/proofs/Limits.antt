@@ -10,10 +10,13 @@ use Rattle.hdl_limits.specs.declared.TheConstants.{NAME_MAX}
 use Rattle.hdl_value.specs.Place.{Place, place_cmp, same_handle}
 use Rattle.hdl_value.specs.declared.references.RawRef.{RawRef}
 use Rattle.hdl_value.specs.declared.value.Value.{Value}
+use Rattle.hdl_value.specs.Refs.{is_admin}
 use Rattle.hdl_value.proofs.Places.{place_total, place_antisymmetric}
 use Rattle.hdl_rows.specs.Table.{Table, at, values_of}
 use Rattle.hdl_rows.specs.Heads.{head, heads_of}
 use Rattle.hdl_rows.specs.Reads.{of_value, value_octets, values_octets, reference_octets}
+use Rattle.hdl_rows.specs.declared.reads.TheConstants.{CALL_OCTETS}
+use Rattle.hdl_reach.specs.Cost.{admin_reads, admins_reads}
 use Rattle.hdl_laws.specs.Limits.{IsShort, IsWithinLimits, LimitsBound, head_most, value_most}
 
 -- ---- values that are short
@@ -25,9 +28,14 @@ few_references (r ∷ rs) all = omega (arith, all.0, few_references rs all.1, su
 value_short : (v : Value) → IsShort v → value_octets v ≤ value_most
 value_short v short = omega (arith, short.kind, short.bytes, short.count, few_references v.references short.handles)
 
-values_short : (vs : List Value) → AllByRecursion IsShort vs → values_octets vs ≤ 164637 * length vs
-values_short [] all = omega arith
-values_short (v ∷ vs) all = omega (arith, value_short v all.0, values_short vs all.1, sum_by-cons value_octets v vs)
+admin_short : (v : Value) → IsShort v → admin_reads v ≤ 164653
+admin_short v short =
+    let most = value_short v short in
+    elim (is_admin v) as (λ b. cond b (CALL_OCTETS + value_octets v) 0 ≤ 164653) [ true ↦ omega arith | false ↦ omega arith ]
+
+admins_short : (vs : List Value) → AllByRecursion IsShort vs → admins_reads vs ≤ 164653 * length vs
+admins_short [] all = omega arith
+admins_short (v ∷ vs) all = omega (arith, admin_short v all.0, admins_short vs all.1, sum_by-cons admin_reads v vs)
 
 heads_short : (vs : List Value) → AllByRecursion IsShort vs → values_octets (map head vs) ≤ 285 * length vs
 heads_short [] all = omega arith
@@ -72,6 +80,6 @@ pub limits_bound : LimitsBound
 limits_bound t names within listed = record {
   value = λ p. subst (λ (o : Option Value). of_value o ≤ value_most) (sym (get-entries t.values p)) (found_short (entries t.values) p within.short);
   heads = λ h. omega (arith, within.few h, heads_short (values_of t h) (all_short t h within));
-  values = λ h. omega (arith, within.few h, values_short (values_of t h) (all_short t h within));
+  admins = λ h. omega (arith, within.few h, admins_short (values_of t h) (all_short t h within));
   names = listed;
 }

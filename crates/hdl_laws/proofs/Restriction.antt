@@ -94,7 +94,7 @@ site_filtered (line ∷ sites) u = pick (line.publisher == u) refl (site_filtere
     pick false e rest = rest
 
 speech_restricted : (s : Site) (u : ℕ) → speech (restrict_site s u) u ≡ speech s u
-speech_restricted s u = λ i. record { wire = layout_restricted s u i; site = told_by (layout_restricted s u i) (site_filtered s.sites u i) }
+speech_restricted s u = λ i. record { wire = layout_restricted s u i; site = told_by (layout_restricted s u i) (site_filtered s.sites u i); takes_changes = s.takes_changes }
 
 -- ---- lanes
 
@@ -133,7 +133,7 @@ module _ (m : map.FinMap nat_cmp LaneState) (keep : ℕ → Bool) (lane : ℕ) (
 
 -- ---- the site stays
 
-site_stays : (w : World) (t : Turn) → IsStep w t → t.after.site ≡ w.site
+pub site_stays : (w : World) (t : Turn) → IsStep w t → t.after.site ≡ w.site
 site_stays w t (inl a) = by_owner (owner w.site t.event.lane) a
   where
     by_owner : (o : Option ℕ) → IsAnswerFor w o t → t.after.site ≡ w.site

@@ -19,7 +19,7 @@ use Rattle.hdl_ops.proofs.SiteDecisions.{site_code, site_told}
 use Rattle.hdl_events.specs.declared.Outcome.TheVariants.{Reply, Busy, Silent, CloseAfter}
 use Rattle.hdl_laws.specs.Lanes.{LaneState}
 use Rattle.hdl_laws.specs.Worlds.{World, hosts, algorithms, algorithms_for, speech_for, owner, lane_of}
-use Rattle.hdl_laws.specs.Tasks.{Message, Task, Ignore, Break, Malformed, Unknown, Late, Ask, Inform, Redeem, IsTask}
+use Rattle.hdl_laws.specs.Tasks.{Message, Task, Ignore, Break, Malformed, Unknown, Late, Deny, Ask, Inform, Redeem, IsTask}
 use Rattle.hdl_laws.specs.Effects.{Effect, Does, answer_octets, challenge_octets, answer_effect, challenge_effect}
 use Rattle.hdl_laws.specs.Steps.{Turn, IsAnswerFor, IsStep}
 use Rattle.hdl_laws.specs.Reveals.{IsReplyBy, asked_octets, site_by_code, Reveals, StepsTell}
@@ -70,6 +70,8 @@ does_tell hosted algorithms t (Malformed m s) eff octets is e =
     sent ∙ ap (λ c. short_reply c m.envelope) (sym (ap response_code_at sent ∙ code-short_reply 4 m.envelope (code_fits 4 refl)))
 does_tell hosted algorithms t (Unknown m r s) eff octets is e = by_its_code Sha1 m.moment m.envelope r 4 (λ c. Empty) octets refl (same_reply octets _ (sym (ap (λ (x : Effect). x.outcome) is) ∙ e))
 does_tell hosted algorithms t (Late m r a s) eff octets is e = by_its_code a m.moment m.envelope r 405 (λ c. Empty) octets refl (same_reply octets _ (sym (ap (λ (x : Effect). x.outcome) is) ∙ e))
+does_tell hosted algorithms t (Deny m r s) eff octets is e =
+    by_its_code (request_algorithm algorithms r) m.moment m.envelope r 5 (λ c. Empty) octets refl (same_reply octets _ (sym (ap (λ (x : Effect). x.outcome) is) ∙ e))
 does_tell hosted algorithms t (Ask m r s) eff octets is e = asked_reply hosted (request_algorithm algorithms r) t s m r is.0 octets (is.0.code == 402) refl is.1 (sym (ap (λ (x : Effect). x.outcome) is.2) ∙ e)
 does_tell hosted algorithms t (Inform m r site s) eff octets is e =
     let d = site_decision Sha1 r site in

@@ -33,7 +33,7 @@ use Rattle.hdl_pool.specs.Partial.{piece_of}
 use Rattle.hdl_pool.specs.Taking.{take_piece, whole_message, free_partial}
 use Rattle.hdl_laws.specs.Lanes.{LaneState, with_partials}
 use Rattle.hdl_laws.specs.Speech.{Speech}
-use Rattle.hdl_laws.specs.Tasks.{Received, Message, message_from, Task, Ignore, Break, Malformed, Unknown, Late, Ask, Inform, Redeem, IsReading, IsTask, IsResponseTask, IsRequestTask, IsContentTask, IsMessageTask, IsWholeTask, IsPieceTask, IsFrameTask, IsOctetsTask, redeem_task}
+use Rattle.hdl_laws.specs.Tasks.{Received, Message, message_from, Task, Ignore, Break, Malformed, Unknown, Late, Deny, Ask, Inform, Redeem, IsReading, IsTask, IsResponseTask, IsRequestTask, IsContentTask, IsMessageTask, IsWholeTask, IsPieceTask, IsFrameTask, IsOctetsTask, redeem_task}
 use Rattle.hdl_laws.specs.Effects.{Effect, Does, ask_effect, answer_effect, challenge_effect}
 use Rattle.hdl_laws.specs.Runs.{is_busy}
 use Rattle.hdl_laws.specs.Isolation.{Agrees, IsClosed}
@@ -51,13 +51,13 @@ same_reading P one (Some x) (Some y) a b = ap Some (one x y a b)
 one_reading : (w : Wire) (octets : List ℕ) (o o' : Option Content) → IsReading (SpellsRequest w octets) o → IsReading (SpellsRequest w octets) o' → o ≡ o'
 one_reading w octets o o' a b = same_reading (SpellsRequest w octets) (λ c d p q. one_request_lem w octets c d p q) o o' a b
 
-response_task_one : (w : Wire) (s : LaneState) (m : Message) (r : Content) (a : Response) (p : Option Pending) (k k' : Task) → IsResponseTask w s m r a p k → IsResponseTask w s m r a p k' → k ≡ k'
+response_task_one : (w : Speech) (s : LaneState) (m : Message) (r : Content) (a : Response) (p : Option Pending) (k k' : Task) → IsResponseTask w s m r a p k → IsResponseTask w s m r a p k' → k ≡ k'
 response_task_one w s m r a None k k' x y = x ∙ sym y
-response_task_one w s m r a (Some p) k k' x y = x.2 ∙ ap (redeem_task s m a p) (one_reading w p.message x.0 y.0 x.1 y.1) ∙ sym y.2
+response_task_one w s m r a (Some p) k k' x y = x.2 ∙ ap (redeem_task w.takes_changes s m a p) (one_reading w.wire p.message x.0 y.0 x.1 y.1) ∙ sym y.2
 
 request_task_one : (w : Speech) (s : LaneState) (m : Message) (r : Content) (a : Option Response) (k k' : Task) → IsRequestTask w s m r a k → IsRequestTask w s m r a k' → k ≡ k'
 request_task_one w s m r None k k' x y = x ∙ sym y
-request_task_one w s m r (Some a) k k' x y = response_task_one w.wire s m r a _ k k' x y
+request_task_one w s m r (Some a) k k' x y = response_task_one w s m r a _ k k' x y
 
 content_task_one : (w : Speech) (s : LaneState) (m : Message) (o : Option Content) (k k' : Task) → IsContentTask w s m o k → IsContentTask w s m o k' → k ≡ k'
 content_task_one w s m None k k' x y = x ∙ sym y
@@ -106,6 +106,7 @@ does_agrees hosted algorithms C t t' agree closed rootless (Break session reques
 does_agrees hosted algorithms C t t' agree closed rootless (Malformed m s) eff is = is
 does_agrees hosted algorithms C t t' agree closed rootless (Unknown m r s) eff is = is
 does_agrees hosted algorithms C t t' agree closed rootless (Late m r a s) eff is = is
+does_agrees hosted algorithms C t t' agree closed rootless (Deny m r s) eff is = is
 does_agrees hosted algorithms C t t' agree closed rootless (Ask m r s) eff is = (is.0, decides_agrees hosted C t t' agree closed rootless (request_algorithm algorithms r) r Anyone is.0 is.1, is.2)
 does_agrees hosted algorithms C t t' agree closed rootless (Inform m r site s) eff is = is
 does_agrees hosted algorithms C t t' agree closed rootless (Redeem m r p s) eff is = (is.0, decides_agrees hosted C t t' agree closed rootless (algorithm_of p.digest) r (Proven p) is.0 is.1, is.2)
@@ -125,6 +126,7 @@ does_calm hosted algorithms t (Break session request s) eff is = ap calm is
 does_calm hosted algorithms t (Malformed m s) eff is = ap calm is
 does_calm hosted algorithms t (Unknown m r s) eff is = ap calm is
 does_calm hosted algorithms t (Late m r a s) eff is = ap calm is
+does_calm hosted algorithms t (Deny m r s) eff is = ap calm is
 does_calm hosted algorithms t (Ask m r s) eff is = ap calm is.2 ∙ either_calm (is.0.code == 402) (challenge_effect (request_algorithm algorithms r) s m r) (answer_effect (request_algorithm algorithms r) s m r is.0) refl refl
 does_calm hosted algorithms t (Inform m r site s) eff is = ap calm is
 does_calm hosted algorithms t (Redeem m r p s) eff is = ap calm is.2
@@ -182,6 +184,7 @@ module _ (hosted : List ℕ → Bool) (t : Table) where
   does_change algorithms (Malformed m s) eff is x e = absurd (some_none x (sym e ∙ ap (λ (y : Effect). y.change) is))
   does_change algorithms (Unknown m r s) eff is x e = absurd (some_none x (sym e ∙ ap (λ (y : Effect). y.change) is))
   does_change algorithms (Late m r a s) eff is x e = absurd (some_none x (sym e ∙ ap (λ (y : Effect). y.change) is))
+  does_change algorithms (Deny m r s) eff is x e = absurd (some_none x (sym e ∙ ap (λ (y : Effect). y.change) is))
   does_change algorithms (Ask m r s) eff is x e =
       asked_effect (is.0.code == 402) (challenge_effect (request_algorithm algorithms r) s m r) (answer_effect (request_algorithm algorithms r) s m r is.0) refl (decided_change (request_algorithm algorithms r) r Anyone is.0 (refusal hosted r) refl is.1) x (sym (ap (λ (y : Effect). y.change) is.2) ∙ e)
   does_change algorithms (Inform m r site s) eff is x e = absurd (some_none x (sym e ∙ ap (λ (y : Effect). y.change) is ∙ site_changes_nothing Sha1 r site))
@@ -196,6 +199,7 @@ does_one hosted algorithms t (Break session request s) x y a b = a ∙ sym b
 does_one hosted algorithms t (Malformed m s) x y a b = a ∙ sym b
 does_one hosted algorithms t (Unknown m r s) x y a b = a ∙ sym b
 does_one hosted algorithms t (Late m r c s) x y a b = a ∙ sym b
+does_one hosted algorithms t (Deny m r s) x y a b = a ∙ sym b
 does_one hosted algorithms t (Ask m r s) x y a b = a.2 ∙ ap (ask_effect (request_algorithm algorithms r) s m r) (one_decision_lem hosted (request_algorithm algorithms r) t r Anyone a.0 b.0 a.1 b.1) ∙ sym b.2
 does_one hosted algorithms t (Inform m r site s) x y a b = a ∙ sym b
 does_one hosted algorithms t (Redeem m r p s) x y a b = a.2 ∙ ap (answer_effect (algorithm_of p.digest) s m r) (one_decision_lem hosted (algorithm_of p.digest) t r (Proven p) a.0 b.0 a.1 b.1) ∙ sym b.2

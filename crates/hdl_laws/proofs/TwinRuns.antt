@@ -6,7 +6,7 @@ use Rattle.hdl_msg.specs.Reply.{short_reply}
 use Rattle.hdl_ops.proofs.Codes.{not_busy}
 use Rattle.hdl_events.specs.declared.Event.{Event}
 use Rattle.hdl_events.specs.declared.Outcome.TheVariants.{Busy}
-use Rattle.hdl_laws.specs.Worlds.{World, hosts, algorithms, owner, lane_of, speech_for, speech}
+use Rattle.hdl_laws.specs.Worlds.{World, with_table, hosts, algorithms, owner, lane_of, speech_for, speech}
 use Rattle.hdl_laws.specs.Tasks.{Received, IsTask}
 use Rattle.hdl_laws.specs.Effects.{Effect, Does}
 use Rattle.hdl_laws.specs.Steps.{what_of, Turn, IsBusy, IsStep, moment_of, after_effect}
@@ -33,10 +33,6 @@ same_received x y e =
     let nonces : x.nonce ≡ y.nonce = cc in
     let bytes : x.bytes ≡ y.bytes = cc in
     λ i. record { peer = peers i; moment = moments i; nonce = nonces i; bytes = bytes i }
-
--- the world with another table
-abbrev with_table : World → Table → World
-with_table w t = record { site = w.site; table = t; lanes = w.lanes }
 
 module _ (H : List (List ℕ)) where
   abbrev Alike : Turn → Turn → Type 0

@@ -26,7 +26,7 @@ use Rattle.hdl_ops.specs.Replies.{fits}
 use Rattle.hdl_ops.specs.Decisions.{Level, Anyone, Proven, Decision, DecidesBy, decision, success, failure, show, carried_content, carried_by, may_read, change_of}
 use Rattle.hdl_ops.specs.Tables.{write_of, stamped_write, apply_if}
 use Rattle.hdl_ops.proofs.Codes.{decides_code}
-use Rattle.hdl_laws.specs.Tasks.{Task, Ignore, Break, Malformed, Unknown, Late, Ask, Inform, Redeem}
+use Rattle.hdl_laws.specs.Tasks.{Task, Ignore, Break, Malformed, Unknown, Late, Deny, Ask, Inform, Redeem}
 use Rattle.hdl_laws.specs.Effects.{Effect, Does, ask_effect, answer_effect}
 use Rattle.hdl_laws.specs.Isolation.{is_held, may_be_read, without_content, readable, AreTwins, code_of, proven_request}
 use Rattle.hdl_laws.proofs.Maps.{get-retained, alike_values}
@@ -154,6 +154,7 @@ module _ (H : List (List ℕ)) (t t' : Table) (twins : AreTwins H t t') where
   does_twin hosted algorithms (Malformed m s) x y a b e f = a ∙ sym b
   does_twin hosted algorithms (Unknown m r s) x y a b e f = a ∙ sym b
   does_twin hosted algorithms (Late m r g s) x y a b e f = a ∙ sym b
+  does_twin hosted algorithms (Deny m r s) x y a b e f = a ∙ sym b
   does_twin hosted algorithms (Ask m r s) x y a b e f =
       let here : code_of x.outcome ≡ a.0.code = ap effect_code a.2 ∙ ask_code (request_algorithm algorithms r) s m r a.0 (decides_code hosted (request_algorithm algorithms r) t r Anyone a.0 a.1) in
       let there : code_of y.outcome ≡ b.0.code = ap effect_code b.2 ∙ ask_code (request_algorithm algorithms r) s m r b.0 (decides_code hosted (request_algorithm algorithms r) t' r Anyone b.0 b.1) in

@@ -24,7 +24,7 @@ use Rattle.hdl_laws.proofs.Maps.{get-retained, contains-retained, gated_and}
 abbrev pub written_handle : Change → List ℕ
 written_handle c = handle_of (write_of c)
 
-stamped_handle : (moment : ℕ) (w : Write) → handle_of (stamped_write moment w) ≡ handle_of w
+pub stamped_handle : (moment : ℕ) (w : Write) → handle_of (stamped_write moment w) ≡ handle_of w
 stamped_handle moment (write.Create h vs) = refl
 stamped_handle moment (write.Delete h) = refl
 stamped_handle moment (write.Add h vs) = refl

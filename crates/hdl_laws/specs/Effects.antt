@@ -5,7 +5,7 @@ use Rattle.hdl_auth.specs.declared.algorithm.Algorithm.TheVariants.{Sha1}
 use Rattle.hdl_auth.specs.Digest.{algorithm_of}
 use Rattle.hdl_frame.specs.declared.envelope.Envelope.{Envelope}
 use Rattle.hdl_msg.specs.Codes.{response_number}
-use Rattle.hdl_msg.specs.declared.codes.ResponseCode.TheVariants.{ProtocolError, AuthenticationNeeded, AuthenticationTimeout}
+use Rattle.hdl_msg.specs.declared.codes.ResponseCode.TheVariants.{ProtocolError, OperationDenied, AuthenticationNeeded, AuthenticationTimeout}
 use Rattle.hdl_msg.specs.Message.{Content}
 use Rattle.hdl_msg.specs.declared.replies.ReplyContent.{ReplyContent}
 use Rattle.hdl_msg.specs.declared.replies.ReplyContent.TheVariants.{Empty}
@@ -22,7 +22,7 @@ use Rattle.hdl_ops.specs.Replies.{digest_of, reply_to, challenge_to}
 use Rattle.hdl_events.specs.declared.Outcome.{Outcome}
 use Rattle.hdl_events.specs.declared.Outcome.TheVariants.{Reply, Silent, CloseAfter}
 use Rattle.hdl_laws.specs.Lanes.{LaneState}
-use Rattle.hdl_laws.specs.Tasks.{Message, Task, Ignore, Break, Malformed, Unknown, Late, Ask, Inform, Redeem}
+use Rattle.hdl_laws.specs.Tasks.{Message, Task, Ignore, Break, Malformed, Unknown, Late, Deny, Ask, Inform, Redeem}
 
 -- what an event of a lane does: its outcome, the lane after it, and the change of the table
 pub record Effect : Type 0 where
@@ -73,6 +73,7 @@ Does hosted algorithms table (Break session request state) effect = effect ≡ r
 Does hosted algorithms table (Malformed arrival state) effect = effect ≡ record { outcome = Reply (short_reply (response_number ProtocolError) arrival.envelope); state = state; change = None }
 Does hosted algorithms table (Unknown arrival request state) effect = effect ≡ answer_effect Sha1 state arrival request (failure (response_number ProtocolError) Empty)
 Does hosted algorithms table (Late arrival request algorithm state) effect = effect ≡ answer_effect algorithm state arrival request (failure (response_number AuthenticationTimeout) Empty)
+Does hosted algorithms table (Deny arrival request state) effect = effect ≡ answer_effect (request_algorithm algorithms request) state arrival request (failure (response_number OperationDenied) Empty)
 Does hosted algorithms table (Ask arrival request state) effect =
     (decision : Decision) × Decides hosted (request_algorithm algorithms request) table request Anyone decision × (effect ≡ ask_effect (request_algorithm algorithms request) state arrival request decision)
 Does hosted algorithms table (Inform arrival request site state) effect = effect ≡ answer_effect Sha1 state arrival request (site_decision Sha1 request site)

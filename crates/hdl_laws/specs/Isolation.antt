@@ -22,7 +22,7 @@ use Rattle.hdl_events.specs.declared.Event.{Event}
 use Rattle.hdl_events.specs.declared.Outcome.{Outcome}
 use Rattle.hdl_events.specs.declared.Outcome.TheVariants.{Reply, Busy, Silent, CloseAfter}
 use Rattle.hdl_laws.specs.Worlds.{World, Site, owner, hosts, speech_for, lane_of}
-use Rattle.hdl_laws.specs.Tasks.{Task, IsTask, Ignore, Break, Malformed, Unknown, Late, Ask, Inform, Redeem}
+use Rattle.hdl_laws.specs.Tasks.{Task, IsTask, Ignore, Break, Malformed, Unknown, Late, Deny, Ask, Inform, Redeem}
 use Rattle.hdl_laws.specs.Steps.{Turn}
 use Rattle.hdl_laws.specs.Runs.{is_busy}
 
@@ -56,13 +56,14 @@ restrict_table hosted cover table = record {
   values = map.retain_keys table.values (is_retained hosted cover);
 }
 
--- the publisher's lanes, the prefixes hosted for it, its layout, and its site information
+-- the publisher's lanes, prefixes, layout and site information, and whether changes are taken
 abbrev pub restrict_site : Site → ℕ → Site
 restrict_site site publisher = record {
   owners = map.retain_keys site.owners (owns site publisher);
   hostings = filter (λ hosting. hosting.publisher == publisher) site.hostings;
   layouts = map.retain_keys site.layouts (λ other. other == publisher);
   sites = filter (λ line. line.publisher == publisher) site.sites;
+  takes_changes = site.takes_changes;
 }
 
 -- what the publisher has of the world, and the values at the cover
@@ -177,6 +178,7 @@ proven_request (Break session request state) = None
 proven_request (Malformed message state) = None
 proven_request (Unknown message request state) = None
 proven_request (Late message request algorithm state) = None
+proven_request (Deny message request state) = None
 proven_request (Ask message request state) = None
 proven_request (Inform message request site state) = None
 

@@ -1,6 +1,8 @@
 -- The laws over whole runs.
-use Rattle.std.specs.Prelude.{◌≡◌, ℕ, List, [], ◌∷◌, ◌++◌, map, IsFalse, ⊤}
+use Rattle.std.specs.Prelude.{◌≡◌, ◌≢◌, ℕ, List, [], ◌∷◌, ◌++◌, map, IsFalse, IsTrue, ⊤}
+use Rattle.hdl_name.specs.Name.{prefix}
 use Rattle.hdl_value.specs.Place.{Place}
+use Rattle.hdl_reach.specs.Reach.{is_among}
 use Rattle.hdl_tenants.specs.Register.{root}
 use Rattle.hdl_events.specs.declared.Event.{Event}
 use Rattle.hdl_events.specs.declared.Outcome.{Outcome}
@@ -72,9 +74,23 @@ Hidden world es os = (turns : List Turn) → IsRun world turns → events turns 
 abbrev pub TwinsReplyAlike : Type 0
 TwinsReplyAlike = (world : World) (turns : List Turn) → IsRun world turns → HidesUnread world turns
 
+-- in a run of a world that takes no changes the table stays
+abbrev pub ReadsOnly : Type 0
+ReadsOnly = (world : World) (turns : List Turn) → IsFalse world.site.takes_changes → IsRun world turns → (last world turns).table ≡ world.table
+
 -- each run has a cover for each publisher
 abbrev pub HasCover : Type 0
 HasCover = (world : World) (turns : List Turn) (publisher : ℕ) → (cover : List Place) × IsCover publisher cover world turns
+
+-- no other publisher hosts a prefix of the publisher, or that of a place of the cover
+pub record IsUnshared (site : Site) (publisher : ℕ) (cover : List Place) : Type 0 where
+  pub own : (other : ℕ) (handle : List ℕ) → other ≢ publisher → IsTrue (hosts site publisher (prefix handle)) → IsFalse (hosts site other (prefix handle))
+  pub covered : (other : ℕ) (place : Place) → other ≢ publisher → IsTrue (is_among place cover) → IsFalse (hosts site other (prefix place.handle))
+
+-- then each run is quiet, whatever others send
+abbrev pub UnsharedIsQuiet : Type 0
+UnsharedIsQuiet =
+    (world : World) (turns : List Turn) (publisher : ℕ) (cover : List Place) → IsRun world turns → IsUnshared world.site publisher cover → IsQuiet world.site publisher cover world turns
 
 -- no event of another lane changes the table
 abbrev pub IsCalm : Site → ℕ → World → List Turn → Type 0

@@ -6,7 +6,7 @@ use Rattle.hdl_limits.specs.declared.TheConstants.{NAME_MAX, TYPE_MAX, DATA_MAX,
 use Rattle.hdl_value.specs.declared.references.RawRef.{RawRef}
 use Rattle.hdl_value.specs.declared.value.Value.{Value}
 use Rattle.hdl_rows.specs.Table.{Table, values_of, names_of}
-use Rattle.hdl_rows.specs.declared.reads.TheConstants.{VALUE_OCTETS, REFERENCE_OCTETS}
+use Rattle.hdl_rows.specs.declared.reads.TheConstants.{CALL_OCTETS, VALUE_OCTETS, REFERENCE_OCTETS}
 use Rattle.hdl_rows.specs.Reads.{names_octets}
 use Rattle.hdl_reach.specs.Cost.{Most, HasAtMost}
 
@@ -28,9 +28,9 @@ head_most = VALUE_OCTETS + TYPE_MAX
 abbrev pub value_most : ℕ
 value_most = head_most + DATA_MAX + REFERENCES_MAX * (REFERENCE_OCTETS + NAME_MAX)
 
--- a value, the heads of a handle's values, these values, and lists of so many octets
+-- a value, the heads of a handle's values, its HS_ADMIN values, and lists of so many octets
 abbrev pub limits : ℕ → Most
-limits names = record { value = value_most; heads = VALUES_MAX * head_most; values = VALUES_MAX * value_most; names = names }
+limits names = record { value = value_most; heads = VALUES_MAX * head_most; admins = VALUES_MAX * (CALL_OCTETS + value_most); names = names }
 
 -- a table within limits has no more than that
 abbrev pub LimitsBound : Type 0

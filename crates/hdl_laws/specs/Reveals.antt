@@ -20,7 +20,7 @@ use Rattle.hdl_events.specs.declared.Outcome.{Outcome}
 use Rattle.hdl_events.specs.declared.Outcome.TheVariants.{Reply, Busy, Silent, CloseAfter}
 use Rattle.hdl_laws.specs.Lanes.{LaneState}
 use Rattle.hdl_laws.specs.Worlds.{World, owner, algorithms_for, lane_of, speech_for}
-use Rattle.hdl_laws.specs.Tasks.{Message, Task, Ignore, Break, Malformed, Unknown, Late, Ask, Inform, Redeem, IsTask}
+use Rattle.hdl_laws.specs.Tasks.{Message, Task, Ignore, Break, Malformed, Unknown, Late, Deny, Ask, Inform, Redeem, IsTask}
 use Rattle.hdl_laws.specs.Effects.{answer_octets, challenge_octets}
 use Rattle.hdl_laws.specs.Runs.{Steps}
 
@@ -42,6 +42,7 @@ IsReplyBy algorithms table (Break session request state) code octets = ⊥
 IsReplyBy algorithms table (Malformed message state) code octets = octets ≡ short_reply code message.envelope
 IsReplyBy algorithms table (Unknown message request state) code octets = octets ≡ answer_octets Sha1 message.moment message.envelope request code Empty
 IsReplyBy algorithms table (Late message request algorithm state) code octets = octets ≡ answer_octets algorithm message.moment message.envelope request code Empty
+IsReplyBy algorithms table (Deny message request state) code octets = octets ≡ answer_octets (request_algorithm algorithms request) message.moment message.envelope request code Empty
 IsReplyBy algorithms table (Ask message request state) code octets = octets ≡ asked_octets (request_algorithm algorithms request) table message request state code
 IsReplyBy algorithms table (Inform message request site state) code octets = octets ≡ answer_octets Sha1 message.moment message.envelope request code (site_by_code site code)
 IsReplyBy algorithms table (Redeem message request proof state) code octets = octets ≡ answer_octets (algorithm_of proof.digest) message.moment message.envelope request code (content_by_code table request (Proven proof) code)

@@ -1,5 +1,5 @@
 -- What an event comes to before the table is looked at (docs/PROTOCOL.md, "One event").
-use Rattle.std.specs.Prelude.{◌≡◌, ℕ, ◌-◌, List, Bool, true, false, nat_lt, Option, Some, None, if◌then◌else◌, ◌⊎◌, drop, MatchBool}
+use Rattle.std.specs.Prelude.{◌≡◌, ℕ, ◌-◌, List, Bool, true, false, not, ◌&&◌, nat_lt, is_some, Option, Some, None, if◌then◌else◌, ◌⊎◌, drop, MatchBool}
 use Rattle.hdl_limits.specs.declared.TheConstants.{CHALLENGE_LIFE}
 use Rattle.hdl_auth.specs.declared.algorithm.Algorithm.{Algorithm}
 use Rattle.hdl_auth.specs.Digest.{algorithm_of}
@@ -7,11 +7,11 @@ use Rattle.hdl_frame.specs.declared.envelope.Envelope.{Envelope}
 use Rattle.hdl_frame.specs.Envelope.{envelope_at, is_truncated}
 use Rattle.hdl_frame.specs.Frames.{IsFrame}
 use Rattle.hdl_msg.specs.Message.{Content, SpellsRequest, Operation, site_info}
-use Rattle.hdl_value.specs.declared.wire.Wire.{Wire}
 use Rattle.hdl_pool.specs.Partial.{Partial, key_of, piece_of}
 use Rattle.hdl_pool.specs.Taking.{Fate, take_piece, whole_message, free_partial}
 use Rattle.hdl_slots.specs.declared.pending.Pending.{Pending}
 use Rattle.hdl_slots.specs.Lanes.{challenge_of, spend_challenge}
+use Rattle.hdl_ops.specs.Decisions.{change_of}
 use Rattle.hdl_ops.specs.Proven.{Proof}
 use Rattle.hdl_ops.specs.Requests.{Response, response_of}
 use Rattle.hdl_events.specs.declared.What.{What}
@@ -44,6 +44,7 @@ pub data Task : Type 0 where
   Malformed : Message → LaneState → Task
   Unknown : Message → Content → LaneState → Task
   Late : Message → Content → Algorithm → LaneState → Task
+  Deny : Message → Content → LaneState → Task
   Ask : Message → Content → LaneState → Task
   Inform : Message → Content → List ℕ → LaneState → Task
   Redeem : Message → Content → Proof → LaneState → Task
@@ -61,19 +62,30 @@ is_late arrival challenge = nat_lt CHALLENGE_LIFE (arrival.moment - challenge.mo
 abbrev pub without_challenge : LaneState → Message → LaneState
 without_challenge state arrival = record state { challenges = spend_challenge state.challenges arrival.peer arrival.envelope.session }
 
--- the challenged request, by the reading of its message; its challenge is spent
-abbrev pub redeem_task : LaneState → Message → Response → Pending → Option Content → Task
-redeem_task state arrival response challenge None = Malformed arrival (without_challenge state arrival)
-redeem_task state arrival response challenge (Some request) =
+-- the operation asks for a change, and none is taken
+abbrev pub is_denied : Bool → Operation → Bool
+is_denied takes_changes operation = not takes_changes && is_some (change_of operation)
+
+-- a challenged request, by its time
+abbrev pub due_task : LaneState → Message → Response → Pending → Content → Task
+due_task state arrival response challenge request =
     if is_late arrival challenge
-    then Late arrival request (algorithm_of challenge.digest) (without_challenge state arrival)
-    else Redeem arrival request (record { response = response; nonce = challenge.nonce; digest = challenge.digest }) (without_challenge state arrival)
+    then Late arrival request (algorithm_of challenge.digest) state
+    else Redeem arrival request (record { response = response; nonce = challenge.nonce; digest = challenge.digest }) state
+
+-- the challenged request, by the reading of its message; its challenge is spent
+abbrev pub redeem_task : Bool → LaneState → Message → Response → Pending → Option Content → Task
+redeem_task takes_changes state arrival response challenge None = Malformed arrival (without_challenge state arrival)
+redeem_task takes_changes state arrival response challenge (Some request) =
+    if is_denied takes_changes request.operation
+    then Deny arrival request (without_challenge state arrival)
+    else due_task (without_challenge state arrival) arrival response challenge request
 
 -- a challenge response, by the challenge that it names
-abbrev pub IsResponseTask : Wire → LaneState → Message → Content → Response → Option Pending → Task → Type 0
-IsResponseTask wire state arrival request response None task = task ≡ Unknown arrival request state
-IsResponseTask wire state arrival request response (Some challenge) task =
-    (reading : Option Content) × IsReading (SpellsRequest wire challenge.message) reading × (task ≡ redeem_task state arrival response challenge reading)
+abbrev pub IsResponseTask : Speech → LaneState → Message → Content → Response → Option Pending → Task → Type 0
+IsResponseTask speech state arrival request response None task = task ≡ Unknown arrival request state
+IsResponseTask speech state arrival request response (Some challenge) task =
+    (reading : Option Content) × IsReading (SpellsRequest speech.wire challenge.message) reading × (task ≡ redeem_task speech.takes_changes state arrival response challenge reading)
 
 -- the site information that answers an operation: the lane's, for a question for it
 abbrev pub told_site : Option (List ℕ) → Operation → Option (List ℕ)
@@ -85,11 +97,18 @@ abbrev pub ask_task : LaneState → Message → Content → Option (List ℕ) �
 ask_task state arrival request None = Ask arrival request state
 ask_task state arrival request (Some site) = Inform arrival request site state
 
+-- the same, unless it is denied
+abbrev pub request_task : Speech → LaneState → Message → Content → Task
+request_task speech state arrival request =
+    if is_denied speech.takes_changes request.operation
+    then Deny arrival request state
+    else ask_task state arrival request (told_site speech.site request.operation)
+
 -- a request, by whether it is a challenge response
 abbrev pub IsRequestTask : Speech → LaneState → Message → Content → Option Response → Task → Type 0
-IsRequestTask speech state arrival request None task = task ≡ ask_task state arrival request (told_site speech.site request.operation)
+IsRequestTask speech state arrival request None task = task ≡ request_task speech state arrival request
 IsRequestTask speech state arrival request (Some response) task =
-    IsResponseTask speech.wire state arrival request response (challenge_of state.challenges.challenges arrival.peer arrival.envelope.session) task
+    IsResponseTask speech state arrival request response (challenge_of state.challenges.challenges arrival.peer arrival.envelope.session) task
 
 -- a message, by its reading
 abbrev pub IsContentTask : Speech → LaneState → Message → Option Content → Task → Type 0

@@ -1,5 +1,5 @@
 -- What the service is at a moment: who owns which lane and hosts which prefix, the table, and the lanes.
-use Rattle.std.specs.Prelude.{ℕ, List, Bool, false, Option, Some, None, unwrap_or}
+use Rattle.std.specs.Prelude.{ℕ, List, Bool, true, false, Option, Some, None, unwrap_or}
 use Rattle.std.specs.Ordering.{nat_cmp}
 use Rattle.std.specs.FinMap as map
 use Rattle.hdl_auth.specs.declared.algorithm.Algorithm.{Algorithm}
@@ -13,17 +13,26 @@ use Rattle.hdl_laws.specs.Lanes.{LaneState, fresh}
 use Rattle.hdl_laws.specs.Speech.{Speech}
 
 -- which publisher owns a lane, which prefixes are hosted for whom, each with its hash function, by whose layout a publisher's lanes
--- speak of values, and the site information of publishers
+-- speak, the site information of publishers, and whether changes are taken
 pub record Site : Type 0 where
   pub owners : map.FinMap nat_cmp ℕ
   pub hostings : List Hosting
   pub layouts : map.FinMap nat_cmp Wire
   pub sites : List SiteInfo
+  pub takes_changes : Bool
 
 pub record World : Type 0 where
   pub site : Site
   pub table : Table
   pub lanes : map.FinMap nat_cmp LaneState
+
+-- the same world, but taking no changes
+abbrev pub read_only : World → World
+read_only world = record world { site = record world.site { takes_changes = false } }
+
+-- the world with another table
+abbrev pub with_table : World → Table → World
+with_table world table = record world { table = table }
 
 abbrev pub owner : Site → ℕ → Option ℕ
 owner site lane = map.get site.owners lane
@@ -44,13 +53,13 @@ algorithms_for site (Some publisher) prefix = algorithms site publisher prefix
 abbrev pub layout : Site → ℕ → Wire
 layout site publisher = unwrap_or (map.get site.layouts publisher) Profile
 
--- how the publisher's lanes speak: by its layout, and with its own site information
+-- how the publisher's lanes speak: by its layout, with its own site information, and by whether the service takes changes
 abbrev pub speech : Site → ℕ → Speech
-speech site publisher = record { wire = layout site publisher; site = told_by (layout site publisher) (site_among site.sites publisher) }
+speech site publisher = record { wire = layout site publisher; site = told_by (layout site publisher) (site_among site.sites publisher); takes_changes = site.takes_changes }
 
 -- the same by a lane's owner
 abbrev pub speech_for : Site → Option ℕ → Speech
-speech_for site None = record { wire = Profile; site = None }
+speech_for site None = record { wire = Profile; site = None; takes_changes = true }
 speech_for site (Some publisher) = speech site publisher
 
 -- a lane of which nothing is kept is closed

@@ -1,6 +1,6 @@
 //! Laws over whole runs, each the contract of a function without a body.
 
-ghost use Rattle.hdl_laws.specs.Laws.{CalmIsQuiet, HasCover, JoinsRuns, KeepsCovers, RunWithoutBusyIsOne, RestrictsRuns, TwinsReplyAlike, TwoRunsAgree};
+ghost use Rattle.hdl_laws.specs.Laws.{CalmIsQuiet, HasCover, JoinsRuns, KeepsCovers, ReadsOnly, RunWithoutBusyIsOne, RestrictsRuns, TwinsReplyAlike, TwoRunsAgree, UnsharedIsQuiet};
 ghost use Rattle.hdl_laws.specs.Limits.{LimitsBound};
 ghost use Rattle.hdl_laws.specs.Reveals.{StepsTell, StepsAnnounce};
 
@@ -28,6 +28,11 @@ pub fn twin_replies()
     ensures { TwinsReplyAlike }
 {}
 
+/// A run of a world that takes no changes leaves the table as it was, whatever is pending on its lanes.
+pub fn reads_only()
+    ensures { ReadsOnly }
+{}
+
 /// The reply to one event is the rendering of its code, the request that it answers, the event's envelope and nonce, the lane's
 /// next number, and with code 1 of what the caller's level may see, or of the site information of the lane's publisher.
 pub fn reply_told()
@@ -50,6 +55,12 @@ pub fn has_cover()
 /// met.
 pub fn calm_is_quiet()
     ensures { CalmIsQuiet }
+{}
+
+/// If no other publisher hosts a publisher's prefixes or those of a cover, every run is quiet: an event changes only handles of
+/// prefixes that the publisher hosts on whose lane it came.
+pub fn unshared_is_quiet()
+    ensures { UnsharedIsQuiet }
 {}
 
 /// A table whose values are within the limits of a value, and whose handles have 1,024 values at most, has these numbers for bounds: a value counts

@@ -24,7 +24,7 @@ pub enum LineFault {
     Hidden,
     #[error("the data isn't text on one line")]
     Text,
-    #[error("the data isn't INDEX:MASK:HANDLE")]
+    #[error("the data isn't INDEX:MASK:HANDLE, the mask of twelve digits 0 or 1")]
     Admin,
     #[error("the data isn't INDEX:HANDLE and more of them")]
     List,

@@ -1,7 +1,8 @@
-//! The Unix socket at which a server takes the word to end.
+//! The Unix socket at which a server takes the word to end, or to open its log anew.
 
 use crate::guests::{Answer, Desk};
 use hdl_sockets::Ending;
+use hdl_telemetry::Flow;
 use std::alloc::Global;
 use std::fs;
 use std::fs::{Files, Permissions};
@@ -13,6 +14,11 @@ use std::sync::Arc;
 
 /// The word that asks for the end.
 pub const STOP: &[u8] = b"stop\n";
+
+/// The word that asks for the file of the log to be opened anew, and the answer of a server that has none.
+pub const REOPEN: &[u8] = b"reopen\n";
+
+const NO_LOG: &[u8] = b"no log\n";
 
 /// Only the program's own user may connect.
 const MODE: u32 = 0o600;
@@ -29,20 +35,42 @@ pub fn listen<R: Files + Net>(rt: &R, path: &str) -> io::Result<UnixListener> {
     Ok(listener)
 }
 
-/// Takes the word to end.
+/// Takes the words.
 #[derive(Drop)]
 pub struct Control {
     pub ending: Arc<Ending>,
+    /// How the lines of the log go, if that is a file.
+    pub log: Option<Arc<Flow>>,
+}
+
+impl Control {
+    /// Asks for the file of the log to be opened anew, if there is one. Who asks is answered by no octet then.
+    fn reopen(&self, alloc: Global) -> Answer {
+        let said = match &self.log {
+            Some(log) => {
+                log.ask_anew();
+                Ok(Vec::new(alloc))
+            }
+            None => Vec::from_slice(alloc, NO_LOG),
+        };
+        match said {
+            Ok(octets) => Answer::Octets(octets),
+            Err(_) => Answer::Nothing,
+        }
+    }
 }
 
 impl Desk for Control {
     /// A client that asked for the end stays connected, and so sees when the program has ended.
-    fn answer(&self, _alloc: Global, question: &[u8]) -> Answer {
+    fn answer(&self, alloc: Global, question: &[u8]) -> Answer {
         if question == STOP {
             self.ending.ask_to_end();
             return Answer::Stays;
         }
-        if STOP.starts_with(question) {
+        if question == REOPEN {
+            return self.reopen(alloc);
+        }
+        if STOP.starts_with(question) || REOPEN.starts_with(question) {
             Answer::More
         } else {
             Answer::Nothing

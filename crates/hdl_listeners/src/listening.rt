@@ -52,7 +52,7 @@ impl Limits {
     }
 }
 
-/// Where a server listens, its limits, the bounds of its publishers, and what is reported of it.
+/// Where a server listens, its limits, the bounds of its publishers, whether it takes changes, and what is reported of it.
 #[derive(Drop)]
 pub struct Setting {
     /// The addresses at which each publisher's port is opened, by TCP and UDP.
@@ -60,6 +60,8 @@ pub struct Setting {
     pub limits: Limits,
     /// How much of the table publishers may take; who has none may take all.
     pub bounds: Vec<Bound>,
+    /// Whether changes are taken. Else each is answered 5, "operation denied".
+    pub takes_changes: bool,
     pub supervision: Supervision,
 }
 
@@ -72,6 +74,7 @@ impl Setting {
             addresses,
             limits,
             bounds: Vec::new(alloc),
+            takes_changes: true,
             supervision: Supervision::none(alloc)?,
         })
     }

@@ -2,7 +2,7 @@
 
 use crate::guests::{Answer, Desk};
 use hdl_programs::VERSION;
-use hdl_telemetry::{Counts, Flow, Health};
+use hdl_telemetry::{Counts, Flow, Health, Vitals};
 use httparse::Status;
 use httparse::spans::{EMPTY_HEADER_SPAN, parse_request};
 use std::alloc::{AllocError, Global};
@@ -13,16 +13,21 @@ use std::sync::Arc;
 /// How many headers of a request are read at most.
 const HEADERS: usize = 64;
 
+/// The method that asks for the head of a page alone.
+const HEAD: &[u8] = b"HEAD";
+
 /// What the page tells.
 #[derive(Drop)]
 pub struct StatusPage {
     pub counts: Vec<Arc<Counts>>,
     pub health: Arc<Health>,
+    /// What the server takes of the machine.
+    pub vitals: Arc<Vitals>,
     /// How the lines of the log go, where there is one.
     pub log: Option<Arc<Flow>>,
 }
 
-/// What is answered: the line after the version, the kind of the body, and the body.
+/// What is answered: what follows the version, the kind of the body, and the body.
 #[derive(Drop)]
 struct Page {
     status: &'static str,
@@ -57,6 +62,12 @@ impl StatusPage {
             counts.put_replies(out)?;
         }
         out.write_str(
+            "# HELP handled_reply_seconds Seconds until a reply went, by publisher, of requests that were alone on their lane.\n# TYPE handled_reply_seconds histogram\n",
+        )?;
+        for counts in &self.counts {
+            counts.put_times(out)?;
+        }
+        out.write_str(
             "# HELP handled_connections Open connections, by publisher.\n# TYPE handled_connections gauge\n",
         )?;
         for counts in &self.counts {
@@ -87,7 +98,11 @@ impl StatusPage {
         writeln!(
             out,
             "# HELP handled_table_failures_total Changes that couldn't be written.\n# TYPE handled_table_failures_total counter\nhandled_table_failures_total {failures}"
-        )
+        )?;
+        out.write_str(
+            "# HELP handled_commit_seconds Seconds until a change was in the table's file.\n# TYPE handled_commit_seconds histogram\n",
+        )?;
+        self.health.commits().put(out, "handled_commit_seconds", "")
     }
 
     /// Puts what is known of memory.
@@ -120,11 +135,12 @@ impl StatusPage {
     fn put_metrics<W: fmt::Write>(&self, out: &mut W) -> fmt::Result {
         writeln!(
             out,
-            "# HELP handled_info The program's version.\n# TYPE handled_info gauge\nhandled_info{{version=\"{VERSION}\"}} 1"
+            "# HELP handled_build_info The program's version.\n# TYPE handled_build_info gauge\nhandled_build_info{{version=\"{VERSION}\"}} 1"
         )?;
         self.put_counts(out)?;
         self.put_table(out)?;
         self.put_memory(out)?;
+        self.vitals.put(out)?;
         self.put_log(out)
     }
 
@@ -143,8 +159,12 @@ impl StatusPage {
 
     /// The page at a path.
     fn page(&self, alloc: Global, method: &[u8], path: &[u8]) -> Result<Page, AllocError> {
-        if method != b"GET".as_slice() {
-            return plain(alloc, "405 Method Not Allowed", "ask with GET\n");
+        if method != b"GET".as_slice() && method != HEAD {
+            return plain(
+                alloc,
+                "405 Method Not Allowed\r\nAllow: GET, HEAD",
+                "ask with GET or HEAD\n",
+            );
         }
         match path {
             b"/health" => self.health(alloc),
@@ -153,14 +173,16 @@ impl StatusPage {
         }
     }
 
-    /// The octets of the answer to a request for this path.
+    /// The octets of the answer to a request for this path. HEAD gets all but the body.
     fn reply(&self, alloc: Global, method: &[u8], path: &[u8]) -> Result<Vec<u8>, AllocError> {
         let Page { status, kind, body } = self.page(alloc, method, path)?;
         let length = body.len();
         let mut reply = format!(in alloc;
             "HTTP/1.1 {status}\r\nContent-Type: {kind}\r\nContent-Length: {length}\r\nCache-Control: no-store\r\nConnection: close\r\n\r\n"
         )?;
-        reply.push_str(body.as_str())?;
+        if method != HEAD {
+            reply.push_str(body.as_str())?;
+        }
         Ok(reply.into_bytes())
     }
 }

@@ -1,4 +1,4 @@
-//! What a server tells of itself in addition to its answers, and how it takes the word to end.
+//! What a server tells of itself in addition to its answers, and how it takes words.
 
 use crate::control::{Control, listen};
 use crate::fault::HostFault;
@@ -8,7 +8,7 @@ use crate::status::StatusPage;
 use crate::telling::{Telling, tell};
 use hdl_programs::Fault;
 use hdl_sockets::Ending;
-use hdl_telemetry::{Counts, FileWatch, Flow, Health, Log, Notice, Record, Voice};
+use hdl_telemetry::{Counts, FileWatch, Flow, Health, Log, LogFile, Notice, Record, Vitals, Voice};
 use std::alloc::{AllocError, Global};
 use std::fs::Files;
 use std::net::{IpAddr, Net, SocketAddr, TcpListener, TcpStream};
@@ -27,16 +27,21 @@ const LOOK: u64 = 20;
 /// What a server tells of itself, and how it takes the word to end.
 #[derive(Drop)]
 pub struct Supervision {
-    /// Where a line of each change goes.
+    /// What is said on standard error once the server listens.
+    pub begins: String,
+    /// Where a line of each change goes, and what opens its file anew, if it is one.
     pub log: Option<Log>,
+    pub log_file: Option<LogFile>,
     /// Where the status page is had over HTTP.
     pub status: Option<SocketAddr>,
-    /// The path of the Unix socket at which the word to end is taken.
+    /// The path of the Unix socket at which words are taken: to end, and to open the log anew.
     pub control: Option<String>,
     /// The address of a proxy that says by the PROXY protocol whose each of its connections is, for the log.
     pub proxied: Option<IpAddr>,
     /// Whether the table takes changes.
     pub health: Arc<Health>,
+    /// What the server takes of the machine.
+    pub vitals: Arc<Vitals>,
     /// The table's file, as it was opened, where it has one.
     pub file: Option<FileWatch>,
     /// What is said of each bound, in their order, once it is reached.
@@ -49,11 +54,14 @@ impl Supervision {
     /// No log, no status page, no control socket.
     pub fn none(alloc: Global) -> Result<Supervision, AllocError> {
         Ok(Supervision {
+            begins: String::new(alloc),
             log: None,
+            log_file: None,
             status: None,
             control: None,
             proxied: None,
             health: Arc::new(alloc, Health::new(alloc, 0)?)?,
+            vitals: Arc::new(alloc, Vitals::new())?,
             file: None,
             bounds: Arc::new(alloc, Vec::new(alloc))?,
             ending: Arc::new(alloc, Ending::new())?,
@@ -91,7 +99,7 @@ impl Supervision {
 #[derive(Drop)]
 pub struct Supervised {
     status: Option<(TcpListener, StatusPage)>,
-    control: Option<UnixListener>,
+    control: Option<(UnixListener, Control)>,
     log: Option<Log>,
     watched: Watched,
 }
@@ -150,7 +158,20 @@ fn page_of<C>(
     Ok(StatusPage {
         counts: all_counts(alloc, places)?,
         health: Arc::try_clone(&supervision.health)?,
+        vitals: Arc::try_clone(&supervision.vitals)?,
         log: flow_of(supervision)?,
+    })
+}
+
+/// What takes the words.
+fn control_of(supervision: &Supervision) -> io::Result<Control> {
+    let log = match supervision.log_file {
+        Some(_) => flow_of(supervision)?,
+        None => None,
+    };
+    Ok(Control {
+        ending: Arc::try_clone(&supervision.ending)?,
+        log,
     })
 }
 
@@ -182,7 +203,7 @@ pub fn supervise<R: Net<Listener = TcpListener, Stream = TcpStream> + Files, C>(
     };
     let control = match &supervision.control {
         Some(path) => match listen(rt, path.as_str()) {
-            Ok(listener) => Some(listener),
+            Ok(listener) => Some((listener, or_device(control_of(supervision))?)),
             Err(e) => return Err(HostFault::Control(e.kind())),
         },
         None => None,
@@ -212,15 +233,13 @@ fn start_status<R: Threads + Clock + Copy + Send + Drop + 'static>(
     }
 }
 
-/// Starts the thread that takes the word to end.
+/// Starts the thread that takes words.
 fn start_control<R: Threads + Clock + Copy + Send + Drop + 'static>(
     rt: &R,
     alloc: Global,
     listener: UnixListener,
-    ending: &Arc<Ending>,
+    control: Control,
 ) -> Result<(), Fault> {
-    let ending = or_device(Arc::try_clone(ending).map_err(io::Error::from))?;
-    let control = Control { ending };
     let theirs = *rt;
     match thread::spawn(rt, move || {
         serve_guests(&theirs, alloc, &listener, &control);
@@ -275,8 +294,8 @@ impl Supervised {
         if let Some((listener, page)) = status {
             start_status(rt, alloc, listener, page)?;
         }
-        if let Some(listener) = control {
-            start_control(rt, alloc, listener, &watched.ending)?;
+        if let Some((listener, control)) = control {
+            start_control(rt, alloc, listener, control)?;
         }
         if let Some(log) = log {
             start_log(rt, log)?;

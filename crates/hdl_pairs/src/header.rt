@@ -170,13 +170,19 @@ impl Header {
         frame.get(8) == self.salt.first()
     }
 
+    /// Whether this is what a change leaves behind its last frame: no page yet, and a shut gate.
+    pub(crate) fn ends_at(&self, front: &[u8]) -> bool {
+        let shut = if self.salt[0] == 0 { 1 } else { 0 };
+        eight_at(front, 0) == [0; 8] && front.get(8) == Some(&shut)
+    }
+
+    /// Whether the eight octets that were seen last are those by which frames are known as this log's.
+    pub(crate) fn is_salt(&self, seen: u64) -> bool {
+        seen == u64::from_be_bytes(self.salt)
+    }
+
     /// Whether a frame that begins so is of this log.
     pub(crate) fn has_salt(&self, frame: &[u8]) -> bool {
         eight_at(frame, 8) == self.salt
-    }
-
-    /// Whether a frame that begins so is of this log, but for its gate.
-    pub(crate) fn owns(&self, frame: &[u8]) -> bool {
-        frame.len() >= 16 && eight_at(frame, 8).get(1..) == self.salt.get(1..)
     }
 }

@@ -15,6 +15,7 @@
 //! ```text
 //! header | frame .. frame | frame .. frame | gate: shut                      lawful: no change was under way
 //! header | frame .. frame | frame .. frame | gate: shut, more of this log    lawful: a change was under way, which nobody was answered
+//! header | frame .. frame | frame .. frame | other octets than a change ends with    the same, or octets were cut out: it is told
 //! header | frame .. frame | gate: open, and the frame isn't whole            a change that was done is damaged
 //! header | frame .. frame | end                                              the log was cut
 //! ```

@@ -16,7 +16,7 @@ const EMPTY: u64 = 41;
 pub enum Rest {
     /// Nothing of this log.
     Nothing,
-    /// A change that was under way.
+    /// A change that was under way, or what is no end of a change.
     Unfinished,
     /// A change that was done, and isn't whole.
     Broken,
@@ -151,10 +151,10 @@ impl Walk {
         if self.header.opens(front) {
             return Rest::Broken;
         }
-        if self.header.owns(front) {
-            Rest::Unfinished
-        } else {
+        if self.header.ends_at(front) {
             Rest::Nothing
+        } else {
+            Rest::Unfinished
         }
     }
 
@@ -173,18 +173,32 @@ impl Walk {
     }
 }
 
-/// Whether this frame or one behind it is of the log that is gone through.
-fn has_own<I: Read>(input: &mut I, walk: &Walk, frame: &mut Vec<u8>) -> Result<bool, LookFault> {
-    let mut ahead = *walk;
+/// Whether these octets, behind those that were seen, have the salt of a log's frames.
+fn finds_own(header: &Header, seen: &mut u64, octets: &[u8]) -> bool {
+    for octet in octets {
+        *seen = seen.wrapping_mul(256) | u64::from(*octet);
+        if header.is_salt(*seen) {
+            return true;
+        }
+    }
+    false
+}
+
+/// Whether a frame of the log that is gone through begins in these octets or behind them, at any place: what lay between may have been cut out.
+fn has_own<I: Read>(input: &mut I, walk: &Walk, octets: &mut Vec<u8>) -> Result<bool, LookFault> {
+    let mut left = walk.left().saturating_sub(walk.step());
+    let mut seen = 0u64;
     for _ in 0..walk.length {
-        if ahead.header.has_salt(frame) {
+        if finds_own(&walk.header, &mut seen, octets) {
             return Ok(true);
         }
-        ahead.frames = ahead.frames.saturating_add(1);
-        if ahead.left() < ahead.step() {
+        let count = (left as usize).min(octets.len());
+        if count == 0 {
             break;
         }
-        input.read_exact(frame)?;
+        octets.truncate(count);
+        input.read_exact(octets)?;
+        left = left.saturating_sub(count as u64);
     }
     Ok(false)
 }

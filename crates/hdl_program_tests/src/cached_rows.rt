@@ -1,14 +1,12 @@
-//! A table that keeps what was read last: through the bound, beside one that keeps nothing, over one that refuses to be asked again, with
-//! a handle that is too large, and with more handles than it keeps.
+//! A table that keeps what was read last: through the bound, over one that refuses to be asked again, with a handle that is too large, and with more
+//! handles than it keeps. What it answers over the table in SQL is seen by tools/replays.py.
 
-use crate::agreement::writes_agree;
 use crate::assertion::same;
 use crate::rows::{are, each_call};
 use crate::writes::{create, reference};
 use hdl_cachedrows::{CachedRows, LIMIT_DEFAULT};
 use hdl_name::Name;
 use hdl_rows::{Fuse, PlainRows, Refused, Rows};
-use hdl_sqlrows::SqlRows;
 use hdl_tests::made::value;
 use hdl_value::Reference;
 use std::alloc::Global;
@@ -26,19 +24,6 @@ fn each_call_through_a_cache(rt: HostRuntime) -> Result<(), Fail> {
     let rows = PlainRows::new(rt.alloc());
     let mut cached = CachedRows::new(rt.alloc(), rows, LIMIT_DEFAULT, RandomState::new(&rt)?)?;
     each_call(&rt, rt.alloc(), &mut cached)
-}
-
-/// A cache over the table in SQL answers as the table in memory after each of five hundred writes in no order.
-#[test]
-fn a_cache_agrees(rt: HostRuntime) -> Result<(), Fail> {
-    let rows = SqlRows::new(rt.alloc())?;
-    let mut cached = CachedRows::new(rt.alloc(), rows, LIMIT_DEFAULT, RandomState::new(&rt)?)?;
-    writes_agree(
-        &rt,
-        &mut PlainRows::new(rt.alloc()),
-        &mut cached,
-        rt.alloc(),
-    )
 }
 
 /// Whether each call that reads tells just this value of the handle.

@@ -1,5 +1,5 @@
-//! Tests of what stands on several crates: tables through their bound, in memory and in SQL, whose write comes next, a script in which another publisher does
-//! what it can, and two workers at a time, which need threads.
+//! Tests of what stands on several crates: tables through their bound, in memory and in SQL, whose write comes next, and two workers at a time, which
+//! need threads.
 //!
 //! They stand apart from those of `hdl_tests`, which need neither SQL nor the machine and so begin earlier. Beside the tests it has
 //! the values that a table is to keep ([`values`]); nothing stands on it.
@@ -16,15 +16,9 @@ mod cached_rows;
 #[cfg(test)]
 mod lasting_rows;
 #[cfg(test)]
-mod loaded_rows;
-#[cfg(test)]
-mod neighbours;
-#[cfg(test)]
 mod one_event;
 #[cfg(test)]
 mod rows;
-#[cfg(test)]
-mod scripts;
 #[cfg(test)]
 mod two_workers;
 pub mod values;

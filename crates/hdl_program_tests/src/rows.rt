@@ -2,7 +2,7 @@
 
 use crate::agreement::writes_agree;
 use crate::assertion::same;
-use crate::awkward::each_awkward;
+use crate::awkward::keeps_fields;
 use crate::writes::{add, create, delete, modify, reference, remove};
 use hdl_name::Name;
 use hdl_rows::{Fuse, PlainRows, Refused, Rows};
@@ -109,7 +109,7 @@ fn creates_empty<R: Rows>(rt: &impl Abort, alloc: Global, rows: &mut R) -> Resul
     create(rt, rows, &Name::read(alloc, b"10.abc/empty")?, &[])
 }
 
-pub(crate) fn each_call<R: Rows>(rt: &impl Abort, alloc: Global, rows: &mut R) -> Result<(), Fail> {
+fn calls_in_turn<R: Rows>(rt: &impl Abort, alloc: Global, rows: &mut R) -> Result<(), Fail> {
     creates(rt, alloc, rows)?;
     stands(rt, alloc, rows, b"10.abc/x", &CREATED)?;
     other_local_name(rt, alloc, rows)?;
@@ -185,26 +185,26 @@ fn clear_all<R: Rows>(rt: &impl Abort, alloc: Global, rows: &mut R) -> Result<()
     Ok(())
 }
 
-/// Each call, lists, names and values that are awkward, and many writes, each over an empty table. They are one call, since each call at a table of many parts
-/// is dear to prove.
-pub(crate) fn each_part<R: Rows>(rt: &impl Abort, alloc: Global, rows: &mut R) -> Result<(), Fail> {
-    each_call(rt, alloc, rows)?;
+/// Each call in turn, lists, fields that are awkward, and many writes, each over an empty table. They are one call, since each call at a table of
+/// many parts is dear to prove.
+pub(crate) fn each_call<R: Rows>(rt: &impl Abort, alloc: Global, rows: &mut R) -> Result<(), Fail> {
+    calls_in_turn(rt, alloc, rows)?;
     clear_all(rt, alloc, rows)?;
     lists(rt, alloc, rows)?;
     clear_all(rt, alloc, rows)?;
-    each_awkward(rt, alloc, rows)?;
+    keeps_fields(rt, alloc, rows)?;
     clear_all(rt, alloc, rows)?;
     writes_agree(rt, &mut PlainRows::new(alloc), rows, alloc)
 }
 
 #[test]
-fn each_part_in_memory(rt: HostRuntime) -> Result<(), Fail> {
-    each_part(&rt, rt.alloc(), &mut PlainRows::new(rt.alloc()))
+fn each_call_in_memory(rt: HostRuntime) -> Result<(), Fail> {
+    each_call(&rt, rt.alloc(), &mut PlainRows::new(rt.alloc()))
 }
 
 #[test]
-fn each_part_behind_a_fuse(rt: HostRuntime) -> Result<(), Fail> {
-    each_part(
+fn each_call_behind_a_fuse(rt: HostRuntime) -> Result<(), Fail> {
+    each_call(
         &rt,
         rt.alloc(),
         &mut Fuse::new(PlainRows::new(rt.alloc()), 1, 0),
@@ -212,8 +212,8 @@ fn each_part_behind_a_fuse(rt: HostRuntime) -> Result<(), Fail> {
 }
 
 #[test]
-fn each_part_in_sql(rt: HostRuntime) -> Result<(), Fail> {
-    each_part(&rt, rt.alloc(), &mut SqlRows::new(rt.alloc())?)
+fn each_call_in_sql(rt: HostRuntime) -> Result<(), Fail> {
+    each_call(&rt, rt.alloc(), &mut SqlRows::new(rt.alloc())?)
 }
 
 /// A fuse's first and last call, which of four calls it refuses, and how many it then counted.

@@ -1,4 +1,4 @@
--- What two, three or four clauses say of an answer, said at once.
+-- What two, three or five clauses say of an answer, said at once.
 use Rattle.std.specs.Prelude.{Result, Ok, Err, IfOk}
 
 pub made : {A E : Type 0} (r : Result A E) (P Q R : A → Type 0) → ((a : A) → P a → Q a → R a) → IfOk r P → IfOk r Q → IfOk r R
@@ -9,6 +9,6 @@ pub made_of : {A E : Type 0} (r : Result A E) (P Q R S : A → Type 0) → ((a :
 made_of (Ok a) P Q R S f p q r = f a p q r
 made_of (Err e) P Q R S f p q r = tt
 
-pub made_so : {A E : Type 0} (r : Result A E) (P Q R S T : A → Type 0) → ((a : A) → P a → Q a → R a → S a → T a) → IfOk r P → IfOk r Q → IfOk r R → IfOk r S → IfOk r T
-made_so (Ok a) P Q R S T f p q r s = f a p q r s
-made_so (Err e) P Q R S T f p q r s = tt
+pub made_so : {A E : Type 0} (r : Result A E) (P Q R S T U : A → Type 0) → ((a : A) → P a → Q a → R a → S a → T a → U a) → IfOk r P → IfOk r Q → IfOk r R → IfOk r S → IfOk r T → IfOk r U
+made_so (Ok a) P Q R S T U f p q r s t = f a p q r s t
+made_so (Err e) P Q R S T U f p q r s t = tt

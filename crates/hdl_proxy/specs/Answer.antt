@@ -7,7 +7,7 @@ use Rattle.hdl_proxy.specs.Choice.{IsFirstOf, IsFirstUrl}
 use Rattle.hdl_proxy.specs.Found.{IsFoundOf}
 use Rattle.hdl_proxy.specs.Json.{refusal_json, IsJsonOf, IsPrettyOf}
 use Rattle.hdl_proxy.specs.Keeping.{IsKeepingOf}
-use Rattle.hdl_proxy.specs.Link.{IsWayTo}
+use Rattle.hdl_proxy.specs.Link.{IsWayTo, name_in_address}
 use Rattle.hdl_proxy.specs.Locations.{IsChoice, SaysLocations}
 use Rattle.hdl_proxy.specs.Pages.{refusal_page, refusal_title, redirect_page, IsGonePage, IsPageOf}
 use Rattle.hdl_proxy.specs.Status.{status_of_code, told_code, refused_words}
@@ -111,6 +111,7 @@ is_json Pretty = true
 pub record IsPage (handle : List ℕ) (wrong : Note) (values : List Value) (answer : Answer) : Type 0 where
   pub told : Tells status.Success media.Page answer
   pub kept : IsKeepingOf values answer.keeping
+  pub about : option_map string_bytes answer.about ≡ Some (name_in_address handle)
   pub title : answer.title.items ≡ handle
   pub body : IsPageOf handle wrong values answer.body.items
 
@@ -138,6 +139,7 @@ Goes handle values (Some to) wrong answer = LeadsBy handle values to answer
 pub record IsGone (handle : List ℕ) (gone : Value) (values : List Value) (answer : Answer) : Type 0 where
   pub told : Tells status.Gone media.Page answer
   pub kept : IsKeepingOf values answer.keeping
+  pub about : option_map string_bytes answer.about ≡ Some (name_in_address handle)
   pub title : answer.title.items ≡ codes "Gone: " ++ handle
   pub body : IsGonePage handle gone answer.body.items
 

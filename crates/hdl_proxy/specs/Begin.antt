@@ -72,19 +72,19 @@ LeadsToName name answer =
     (IsHandle name × LeadsTo name (path_to name) answer × (answer.keeping ≡ Never))
     ⊎ (¬ (IsHandle name) × RefusesName Page name answer)
 
--- the way to the name that was pasted; spaces at its ends, and at those of all that was pasted, don't count
-abbrev pub LeadsFromPasted : List ℕ → Reply → Type 0
-LeadsFromPasted sent answer = (name : List ℕ) × (IsPasted (between_spaces sent) name × LeadsToName (between_spaces name) answer)
+-- the way to the name that was pasted at a site with this address; spaces at its ends, and at those of all that was pasted, don't count
+abbrev pub LeadsFromPasted : Option (List ℕ) → List ℕ → Reply → Type 0
+LeadsFromPasted own sent answer = (name : List ℕ) × (IsPasted own (between_spaces sent) name × LeadsToName (between_spaces name) answer)
 
 -- without a handle a page, and with one the way to it
-abbrev pub LeadsFrom : Option (List ℕ) → Reply → Type 0
-LeadsFrom None answer = Tells status.Success media.Page answer
-LeadsFrom (Some sent) answer = LeadsFromPasted sent answer
+abbrev pub LeadsFrom : Option (List ℕ) → Option (List ℕ) → Reply → Type 0
+LeadsFrom own None answer = Tells status.Success media.Page answer
+LeadsFrom own (Some sent) answer = LeadsFromPasted own sent answer
 
 -- the handle is that of the last pair `handle`
-abbrev pub IsFront : List (List ℕ × List ℕ) → Next → Type 0
-IsFront pairs next =
-    (last : Option (List ℕ)) × (IsLast (values_named (codes "handle") pairs) last × IsAnswered (LeadsFrom last) next)
+abbrev pub IsFront : Option (List ℕ) → List (List ℕ × List ℕ) → Next → Type 0
+IsFront own pairs next =
+    (last : Option (List ℕ)) × (IsLast (values_named (codes "handle") pairs) last × IsAnswered (LeadsFrom own last) next)
 
 -- ---- which addresses there are
 
@@ -223,6 +223,7 @@ pub record IsAsked (asked : List ℕ) (wanted : Form) (pairs : List (List ℕ ×
   pub locatt : IsLocatt pairs (string_bytes question.locatt)
   pub aliases : question.aliases ≡ follows_aliases wanted pairs
   pub passed : question.passed.items ≡ []
+  pub tried : question.tried.items ≡ []
   pub keeping : question.keeping ≡ first_keeping pairs
   pub anew : question.anew ≡ has_pair (codes "auth") pairs
   pub no_call : is_called_back wanted pairs ≡ false

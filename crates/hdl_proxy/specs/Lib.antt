@@ -4,6 +4,7 @@ pub mod Begin
 pub mod Choice
 pub mod Escape
 pub mod Found
+pub mod Guess
 pub mod Hops
 pub mod Json
 pub mod Keeping

@@ -9,6 +9,10 @@ use Rattle.hdl_proxy.specs.declared.url.TheConstants.{IN_LOCATION, IN_PATH}
 abbrev pub address_of : List ℕ → List ℕ
 address_of url = percent_encode IN_LOCATION url
 
+-- a handle's name as it stands in an address: with its escapes
+abbrev pub name_in_address : List ℕ → List ℕ
+name_in_address name = percent_encode IN_PATH name
+
 -- the path of a handle's own address: '/', and the name with its escapes
 abbrev pub path_to : List ℕ → List ℕ
 path_to name = 47 ∷ percent_encode IN_PATH name

@@ -1,6 +1,6 @@
 -- The page of a handle's values: markup of this crate, and the handle and what these values say as text, and nothing else.
 -- Text that isn't of this crate stands apart from what is around it (`bdi`, `dir`), so that its direction changes nothing else.
-use Rattle.std.specs.Prelude.{◌≡◌, ◌<◌, ◌≤◌, ◌∷◌, ℕ, ◌==◌, nat_le, Bool, true, false, not, ◌&&◌, ◌||◌, ◌⊎◌, List, [], ◌++◌, filter, length, take, codes, decimal, if◌then◌else◌, Option, Some, None, MatchOption, string_bytes, flat_map}
+use Rattle.std.specs.Prelude.{◌≡◌, ◌<◌, ◌≤◌, ◌∷◌, ℕ, ◌==◌, nat_le, Bool, true, false, not, ◌&&◌, ◌||◌, ◌⊎◌, List, [], ◌++◌, filter, length, codes, decimal, if◌then◌else◌, Option, Some, None, MatchOption, flat_map}
 use Rattle.std.specs.List.{AllZip, concat, list_all, list_any}
 use Rattle.std.specs.Str.{is_utf8}
 use Rattle.hex.specs.Hex.{encode_lower}
@@ -14,7 +14,7 @@ use Rattle.hdl_value.specs.declared.permission.AdminPermission.TheVariants as ma
 use Rattle.hdl_proxy.specs.declared.pages.TheConstants.{ANOTHER, COLUMNS, COLUMNS_OF_TYPES, END, NO_VALUES}
 use Rattle.hdl_proxy.specs.Choice.{is_of, is_url}
 use Rattle.hdl_proxy.specs.Escape.{escaped}
-use Rattle.hdl_proxy.specs.Link.{address_of, path_to_json, path_to_values}
+use Rattle.hdl_proxy.specs.Link.{address_of, path_to, path_to_json, path_to_values}
 use Rattle.hdl_proxy.specs.Note.{note_part}
 use Rattle.hdl_proxy.specs.declared.note.Note.{Note}
 use Rattle.hdl_proxy.specs.Status.{advice}
@@ -42,6 +42,14 @@ name_part name = element (codes "<p class=\"name\" dir=\"auto\">") name (codes "
 -- a handle's name, which leads to the page of its own values
 unfoldable pub handle_link : List ℕ → List ℕ
 handle_link name = codes "<a href=\"" ++ (escaped (path_to_values name) ++ element (codes "\"><bdi>") name (codes "</bdi></a>"))
+
+-- the handle that may be meant, which leads to where its address does
+unfoldable pub meant_link : List ℕ → List ℕ
+meant_link name = codes "<p class=\"note\">Did you mean <a href=\"" ++ (escaped (path_to name) ++ element (codes "\"><bdi>") name (codes "</bdi></a>?</p>\n"))
+
+abbrev pub meant_part : Option (List ℕ) → List ℕ
+meant_part None = []
+meant_part (Some name) = meant_link name
 
 -- a link to the same values as JSON
 unfoldable pub json_part : List ℕ → List ℕ

@@ -1,5 +1,5 @@
 -- Names as people paste them: with a scheme, or with the address of a proxy in front.
-use Rattle.std.specs.Prelude.{◌≡◌, ◌⊎◌, ℕ, List, codes, length, drop, if◌then◌else◌}
+use Rattle.std.specs.Prelude.{◌≡◌, ◌⊎◌, ℕ, List, Option, Some, None, codes, length, drop, if◌then◌else◌}
 use Rattle.std.specs.Str.{is_utf8, trim}
 use Rattle.percent_encoding.specs.Percent.{percent_decode}
 use Rattle.hdl_proxy.specs.Url.{Begins}
@@ -28,6 +28,14 @@ IsBehindDoi text rest =
 abbrev pub IsBehindAddress : List ℕ → List ℕ → Type 0
 IsBehindAddress text rest = IsBehindEither (codes "https://hdl.handle.net/") (codes "http://hdl.handle.net/") text rest ⊎ IsBehindDoi text rest
 
+-- behind the site's own address, where it has one
+abbrev pub IsBehindOwn : Option (List ℕ) → List ℕ → List ℕ → Type 0
+IsBehindOwn None text rest = ⊥
+IsBehindOwn (Some own) text rest = IsBehind own text rest
+
+abbrev pub IsBehindService : Option (List ℕ) → List ℕ → List ℕ → Type 0
+IsBehindService own text rest = IsBehindOwn own text rest ⊎ IsBehindAddress text rest
+
 -- nothing is so
 abbrev pub Lacks : (List ℕ → Type 0) → Type 0
 Lacks so = (rest : List ℕ) → ¬ (so rest)
@@ -40,9 +48,9 @@ IsWhole text rest = Lacks (IsBehindScheme text) × Lacks (IsBehindAddress text) 
 abbrev pub IsWritten : List ℕ → List ℕ → Type 0
 IsWritten text rest = IsBehindScheme text rest ⊎ IsBehindAddress text rest ⊎ IsWhole text rest
 
--- the name in a text that was pasted; an address has escapes
-abbrev pub IsPasted : List ℕ → List ℕ → Type 0
-IsPasted text name =
+-- the name in a text that was pasted at a site with this address; an address has escapes
+abbrev pub IsPasted : Option (List ℕ) → List ℕ → List ℕ → Type 0
+IsPasted own text name =
     IsBehindScheme text name
-    ⊎ ((rest : List ℕ) × (IsBehindAddress text rest × (name ≡ percent_decode rest)))
-    ⊎ IsWhole text name
+    ⊎ ((rest : List ℕ) × (IsBehindService own text rest × (name ≡ percent_decode rest)))
+    ⊎ (Lacks (IsBehindScheme text) × Lacks (IsBehindService own text) × (name ≡ text))

@@ -1,10 +1,13 @@
--- What all pages of a site have: its head, and its foot with whom to ask. Its name and its contact are text.
-use Rattle.std.specs.Prelude.{◌≡◌, ◌≢◌, ◌⊎◌, ℕ, List, [], ◌++◌, codes, Option, Some, None, string_bytes}
+-- What all pages of a site have: its head, and its foot with whom to ask. Its name and its contact are text. And for how long browsers keep its redirects.
+use Rattle.std.specs.Prelude.{◌≡◌, ◌≢◌, ◌⊎◌, ℕ, ◌==◌, if◌then◌else◌, List, [], ◌++◌, codes, Option, Some, None, option_map, string_bytes}
 use Rattle.hdl_proxy.specs.Escape.{escaped}
 use Rattle.hdl_proxy.specs.Link.{IsWayTo}
 use Rattle.hdl_proxy.specs.Pages.{element}
-use Rattle.hdl_proxy.specs.Url.{IsFollowed}
+use Rattle.hdl_proxy.specs.Step.{IsWithin}
+use Rattle.hdl_proxy.specs.Url.{IsFollowed, IsSiteAddress}
 use Rattle.hdl_proxy.specs.declared.answer.Answer.{Answer}
+use Rattle.hdl_proxy.specs.declared.answer.Keeping.{Keeping}
+use Rattle.hdl_proxy.specs.declared.answer.Keeping.TheVariants.{Never, Seconds}
 use Rattle.hdl_proxy.specs.declared.answer.Media.TheVariants as media
 use Rattle.hdl_proxy.specs.declared.site.Contact.{Contact}
 use Rattle.hdl_proxy.specs.declared.site.Site.{Site}
@@ -26,42 +29,86 @@ abbrev pub IsContactIn : Option (List ℕ) → Option Contact → Type 0
 IsContactIn None contact = contact ≡ None
 IsContactIn (Some said) contact = IsContactOf said contact
 
--- a site with this name, and the contact of what was said
-pub record IsSiteOf (called : List ℕ) (said : Option (List ℕ)) (site : Site) : Type 0 where
+-- ---- a site
+
+-- the address that was said, and none just where that isn't the address of a site
+abbrev pub IsAddressOf : List ℕ → Option (List ℕ) → Type 0
+IsAddressOf said None = ¬ (IsSiteAddress said)
+IsAddressOf said (Some address) = IsSiteAddress said × (address ≡ said)
+
+abbrev pub IsAddressIn : Option (List ℕ) → Option (List ℕ) → Type 0
+IsAddressIn None address = address ≡ None
+IsAddressIn (Some said) address = IsAddressOf said address
+
+-- a site with this name, the contact and the address of what was said, and this many seconds for redirects
+pub record IsSiteOf (called : List ℕ) (said : Option (List ℕ)) (at : Option (List ℕ)) (seconds : ℕ) (site : Site) : Type 0 where
   pub name : string_bytes site.name ≡ called
   pub contact : IsContactIn said site.contact
+  pub address : IsAddressIn at (option_map string_bytes site.address)
+  pub redirects : site.redirects ≡ seconds
 
 -- ---- its pages
 
--- the page up to its main part: its title and the site's name, and the name once more as its head
-unfoldable pub front_part : List ℕ → List ℕ → List ℕ
-front_part title name =
-    HEAD.now ++ (escaped title ++ (element (codes " - ") name STYLE.now ++ (escaped name ++ MAIN.now)))
+-- the address of a name, where the site and the name are there
+abbrev pub whole_address : Option (List ℕ) → Option (List ℕ) → Option (List ℕ)
+whole_address None name = None
+whole_address (Some address) None = None
+whole_address (Some address) (Some name) = Some (address ++ name)
+
+-- where a page is cited, and what a link to it says (Open Graph)
+unfoldable pub address_part : List ℕ → List ℕ → List ℕ → List ℕ
+address_part title name address =
+    element (codes "<link rel=\"canonical\" href=\"") address (codes "\">\n") ++ (element (codes "<meta property=\"og:url\" content=\"") address (codes "\">\n")
+    ++ (element (codes "<meta property=\"og:title\" content=\"") title (codes "\">\n") ++ element (codes "<meta property=\"og:site_name\" content=\"") name (codes "\">\n")))
+
+abbrev pub about_part : List ℕ → List ℕ → Option (List ℕ) → List ℕ
+about_part title name None = []
+about_part title name (Some address) = address_part title name address
+
+-- the page up to its main part: its title and the site's name, its address, and the name once more as its head
+unfoldable pub front_part : List ℕ → List ℕ → Option (List ℕ) → List ℕ
+front_part title name address =
+    HEAD.now ++ (escaped title ++ (element (codes " - ") name (codes "</title>\n") ++ (about_part title name address ++ (STYLE.now ++ (escaped name ++ MAIN.now)))))
 
 -- a link to who is asked
 unfoldable pub contact_part : Contact → List ℕ
 contact_part contact =
-    codes "<footer>Questions? <a href=\"" ++ (escaped contact.to ++ element (codes "\">") (string_bytes contact.text) (codes "</a></footer>\n"))
+    codes "<footer>Questions? <a href=\"" ++ (escaped contact.to ++ element (codes "\"><bdi>") (string_bytes contact.text) (codes "</bdi></a></footer>\n"))
 
 abbrev pub foot : Option Contact → List ℕ
 foot None = []
 foot (Some contact) = contact_part contact
 
--- the page of this main part
-abbrev pub page_of : Site → List ℕ → List ℕ → List ℕ
-page_of site title main =
-    front_part title (string_bytes site.name) ++ (main ++ (codes "</main>\n" ++ (foot site.contact ++ codes "</body>\n</html>\n")))
+-- the page of this main part, at this address
+abbrev pub page_of : Site → List ℕ → Option (List ℕ) → List ℕ → List ℕ
+page_of site title address main =
+    front_part title (string_bytes site.name) address ++ (main ++ (codes "</main>\n" ++ (foot site.contact ++ codes "</body>\n</html>\n")))
 
--- it is dressed as a page: the same answer, with its whole page
+-- it is dressed as a page: the same answer, with its whole page and its whole address
 pub record Dresses (site : Site) (before after : Answer) : Type 0 where
   pub status : after.status ≡ before.status
   pub location : after.location ≡ before.location
   pub media : after.media ≡ media.Page
   pub keeping : after.keeping ≡ before.keeping
-  pub body : after.body.items ≡ page_of site before.title.items before.body.items
+  pub tag : after.tag ≡ before.tag
+  pub title : after.title ≡ before.title
+  pub about : option_map string_bytes after.about ≡ whole_address (option_map string_bytes site.address) (option_map string_bytes before.about)
+  pub body : after.body.items ≡ page_of site before.title.items (option_map string_bytes after.about) before.body.items
 
 -- a page is dressed, and all else stays
 abbrev pub IsDressed : Site → Answer → Answer → Type 0
 IsDressed site before after =
     ((before.media ≢ media.Page) × (after ≡ before))
     ⊎ ((before.media ≡ media.Page) × Dresses site before after)
+
+-- ---- redirects
+
+-- others keep a redirect for at most this many seconds, and for none not at all
+abbrev pub redirect_keeping : ℕ → Keeping
+redirect_keeping seconds = if seconds == 0 then Never else Seconds seconds
+
+-- a redirect is kept no longer than the site says, and all else stays
+abbrev pub IsBound : Site → Answer → Answer → Type 0
+IsBound site before after =
+    ((before.location ≡ None) × (after ≡ before))
+    ⊎ ((before.location ≢ None) × IsWithin (redirect_keeping site.redirects) before after)

@@ -1,10 +1,11 @@
 -- What is next for a question that was answered.
-use Rattle.std.specs.Prelude.{◌≡◌, ◌≢◌, ◌≤◌, ◌<◌, ◌⊎◌, ℕ, true, false, List, [], ◌∷◌, ◌++◌, length, Option, Some, None, Result, codes, slice_get, string_bytes, unwrap_or}
+use Rattle.std.specs.Prelude.{◌≡◌, ◌≢◌, ◌≤◌, ◌<◌, ◌⊎◌, ℕ, Bool, true, false, ◌==◌, nat_lt, not, ◌&&◌, if◌then◌else◌, List, [], ◌∷◌, ◌++◌, length, Option, Some, None, Result, codes, slice_get, string_bytes, unwrap_or}
 use Rattle.std.specs.Borrow.{Bor}
 use Rattle.hdl_proxy.specs.Alias.{IsHop, is_among, way_words}
 use Rattle.serde_json.specs.Written.{compact_text}
-use Rattle.hdl_proxy.specs.Answer.{ShowsFound, Tells, media_of, title_in}
+use Rattle.hdl_proxy.specs.Answer.{ShowsFound, Tells, is_json, media_of, title_in}
 use Rattle.hdl_proxy.specs.Found.{IsFoundOf}
+use Rattle.hdl_proxy.specs.Guess.{IsGuess, IsMissing}
 use Rattle.hdl_proxy.specs.Hops.{alias_part, nowhere_page}
 use Rattle.hdl_proxy.specs.Json.{refusal_json}
 use Rattle.hdl_proxy.specs.Keeping.{sooner}
@@ -15,13 +16,14 @@ use Rattle.hdl_proxy.specs.declared.answer.Keeping.TheVariants.{Never}
 use Rattle.hdl_proxy.specs.declared.answer.Media.TheVariants as media
 use Rattle.hdl_proxy.specs.declared.answer.Status.TheVariants as status
 use Rattle.hdl_proxy.specs.declared.found.Found.{Found}
+use Rattle.hdl_proxy.specs.declared.found.Found.TheVariants.{Values, Refused, Nothing}
 use Rattle.hdl_proxy.specs.declared.proxy.Next.{Next}
 use Rattle.hdl_proxy.specs.declared.proxy.Next.TheVariants.{Answer, Ask}
 use Rattle.hdl_proxy.specs.declared.question.Form.{Form}
 use Rattle.hdl_proxy.specs.declared.question.Form.TheVariants.{Follow, Page, Json, Pretty}
 use Rattle.hdl_proxy.specs.declared.question.Question.{Question}
 use Rattle.hdl_proxy.specs.declared.resolver.NoAnswer.{NoAnswer}
-use Rattle.hdl_proxy.specs.declared.codes.TheConstants.{TOO_FAR}
+use Rattle.hdl_proxy.specs.declared.codes.TheConstants.{HANDLE_NOT_FOUND, TOO_FAR, VALUE_NOT_FOUND}
 
 -- ---- no alias is followed
 
@@ -32,6 +34,7 @@ pub record IsWithin (most : Keeping) (before after : Reply) : Type 0 where
   pub location : after.location ≡ before.location
   pub media : after.media ≡ before.media
   pub tag : after.tag ≡ before.tag
+  pub about : after.about ≡ before.about
   pub title : after.title ≡ before.title
   pub body : after.body ≡ before.body
 
@@ -46,6 +49,7 @@ pub record IsOfAlias (asked : List ℕ) (before after : Reply) : Type 0 where
   pub location : after.location ≡ before.location
   pub media : after.media ≡ before.media
   pub tag : after.tag ≡ before.tag
+  pub about : after.about ≡ before.about
   pub title : after.title.items ≡ alias_title asked before.title.items
   pub body : after.body.items ≡ alias_part asked ++ before.body.items
 
@@ -80,6 +84,7 @@ pub record IsNext (question : Question) (hop : Hop) (next : Question) : Type 0 w
   pub locatt : next.locatt ≡ question.locatt
   pub aliases : next.aliases ≡ question.aliases
   pub passed : next.passed.items ≡ asked_for question
+  pub tried : next.tried.items ≡ []
   pub keeping : next.keeping ≡ sooner question.keeping hop.keeping
   pub anew : next.anew ≡ question.anew
 
@@ -105,11 +110,71 @@ Hops question hop (Answer answer) =
     ⊎ ((is_among (asked_for question) hop.target ≡ false) × (10 ≤ length question.passed.items)
     × LeadsNowhere question.form (codes "Its aliases lead on beyond ten handles:") (asked_for question) hop.target answer)
 
+-- ---- a handle that isn't there
+
+abbrev pub is_missing : Found → Bool
+is_missing (Values values) = false
+is_missing (Refused code) = code == HANDLE_NOT_FOUND
+is_missing Nothing = false
+
+-- it is there, if only by what isn't public
+abbrev pub is_there : Found → Bool
+is_there (Values values) = true
+is_there (Refused code) = code == VALUE_NOT_FOUND
+is_there Nothing = false
+
+-- another name is tried where a page asked for the handle by its name, and fewer than two others were tried
+abbrev pub may_try : Question → Found → Bool
+may_try question found =
+    is_missing found && not (is_json question.form) && (length question.passed.items == 0) && nat_lt (length question.tried.items) 2
+
+-- the handles that aren't there, the one of this question last
+abbrev pub tried_for : Question → List (List ℕ)
+tried_for question = question.tried.items ++ question.name ∷ []
+
+-- the next question asks for all values of the handle that may be meant, and follows no alias
+pub record IsTry (question : Question) (guess : List ℕ) (next : Question) : Type 0 where
+  pub name : next.name ≡ guess
+  pub form : next.form ≡ Page
+  pub indexes : next.indexes.items ≡ []
+  pub types : next.types.items ≡ []
+  pub aliases : next.aliases ≡ false
+  pub passed : next.passed.items ≡ []
+  pub tried : next.tried.items ≡ tried_for question
+  pub anew : next.anew ≡ question.anew
+
+-- the guess is tried, and where there is none the handle that was asked for isn't there
+abbrev pub IsTried : Question → Option (List ℕ) → Next → Type 0
+IsTried question None (Answer answer) = IsMissing (first_of (tried_for question)) None answer
+IsTried question None (Ask next) = ⊥
+IsTried question (Some guess) (Answer answer) = ⊥
+IsTried question (Some guess) (Ask next) = IsTry question guess next
+
+abbrev pub TriesNext : Question → Next → Type 0
+TriesNext question next =
+    (guess : Option (List ℕ)) × (IsGuess (tried_for question) (first_of (tried_for question)) guess × IsTried question guess next)
+
+-- the handle of a question may be meant where it is there
+abbrev pub meant_in : Question → Found → Option (List ℕ)
+meant_in question found = if is_there found then Some question.name else None
+
+-- a question that was tried in place of another one says whether its handle is meant, and every other one shows what was found
+abbrev pub EndsAt : Option (List ℕ) → Question → Found → Reply → Type 0
+EndsAt None question found answer = Ends question found answer
+EndsAt (Some asked) question found answer = IsMissing asked (meant_in question found) answer
+
+abbrev pub IsEnd : Question → Found → Next → Type 0
+IsEnd question found (Answer answer) = EndsAt (slice_get question.tried.items 0) question found answer
+IsEnd question found (Ask next) = ⊥
+
+abbrev pub Settles : Question → Found → Next → Type 0
+Settles question found next =
+    ((may_try question found ≡ true) × TriesNext question next) ⊎ ((may_try question found ≡ false) × IsEnd question found next)
+
 -- ---- what is next
 
 abbrev pub IsAfter : Question → Found → Option Hop → Next → Type 0
-IsAfter question found None (Answer answer) = Ends question found answer
-IsAfter question found None (Ask next) = ⊥
+IsAfter question found None next = Settles question found next
 IsAfter question found (Some hop) next = Hops question hop next
 
 -- by what was found of the handle in what a resolver gave: its alias is followed, where aliases are and it has one, and else it is shown

@@ -30,6 +30,7 @@ pub record Carries (before : Answer) (named : List ℕ) (after : Answer) : Type 
   pub status : after.status ≡ before.status
   pub location : after.location ≡ before.location
   pub media : after.media ≡ before.media
+  pub about : after.about ≡ before.about
   pub title : after.title ≡ before.title
   pub keeping : after.keeping ≡ before.keeping
   pub body : after.body ≡ before.body
@@ -40,6 +41,7 @@ pub record IsUnchanged (before : Answer) (named : List ℕ) (after : Answer) : T
   pub status : after.status ≡ NotModified
   pub location : after.location ≡ before.location
   pub media : after.media ≡ before.media
+  pub about : after.about ≡ before.about
   pub title : after.title ≡ before.title
   pub keeping : after.keeping ≡ before.keeping
   pub body : after.body.items ≡ []

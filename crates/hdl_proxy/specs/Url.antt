@@ -1,6 +1,6 @@
 -- Which URLs are followed, and how they stand in a Location.
-use Rattle.std.specs.Prelude.{◌≡◌, ◌≤◌, ◌≢◌, ◌⊎◌, ◌==◌, ◌&&◌, ◌++◌, ℕ, Bool, not, List, [], All, Option, Some, None, bytes_eq, codes, drop, length, take, map, if◌then◌else◌}
-use Rattle.std.specs.List.{list_any}
+use Rattle.std.specs.Prelude.{◌≡◌, ◌≤◌, ◌≢◌, ◌⊎◌, ◌==◌, ◌&&◌, ◌++◌, ℕ, Bool, true, eqb, not, List, [], All, Option, Some, None, bytes_eq, codes, drop, length, take, map, if◌then◌else◌}
+use Rattle.std.specs.List.{ends_with, list_any}
 use Rattle.std.specs.Char.{to_ascii_lowercase}
 
 -- the URL begins with these octets, in any case of letters
@@ -35,3 +35,8 @@ extend url append = if not (bytes_eq append []) && not (has_path url) then None 
 -- graphic ASCII: no control octet, no space, no line end
 abbrev pub IsGraphic : ℕ → Type 0
 IsGraphic octet = (33 ≤ octet) × (octet ≤ 126)
+
+-- the address of a site: its scheme is one of HTTP, a slash ends it, and it is graphic ASCII
+abbrev pub IsSiteAddress : List ℕ → Type 0
+IsSiteAddress address =
+    (Begins address (codes "http://") ⊎ Begins address (codes "https://")) × (ends_with eqb address (codes "/") ≡ true) × All IsGraphic address

@@ -1,5 +1,5 @@
 -- The numbers of a value in words, and octets as text.
-use Rattle.std.specs.Prelude.{◌≡◌, ◌≢◌, ◌==◌, codes, decimal, ℕ, ◌+◌, ◌*◌, ◌/◌, ◌%◌, ℤ, pos, List, [], ◌∷◌, ◌++◌, drop, slice_index, take, if◌then◌else◌, Option, Some, None, string_bytes}
+use Rattle.std.specs.Prelude.{◌≡◌, ◌≢◌, ℕ, ◌+◌, ◌*◌, ◌/◌, ◌%◌, ℤ, pos, List, [], ◌∷◌, ◌++◌, drop, slice_index, take, if◌then◌else◌, Option, Some, None, string_bytes}
 use Rattle.std.specs.Int.{w32, from_be_bytes}
 use Rattle.std.specs.Str.{is_utf8}
 use Rattle.hex.specs.Hex.{encode_lower}

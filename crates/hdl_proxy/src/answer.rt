@@ -1,6 +1,6 @@
 //! What is answered over HTTP.
 
-ghost use Rattle.std.specs.Prelude.{◌≡◌, []};
+ghost use Rattle.std.specs.Prelude.{◌≡◌, [], None};
 ghost use Rattle.hdl_proxy.specs.Answer.{Tells};
 ghost use Rattle.hdl_proxy.specs.Status.{status_number, status_of_code, told_code};
 
@@ -95,6 +95,8 @@ pub struct Answer {
     pub keeping: Keeping,
     /// Its entity tag, which [`with_tag`](crate::with_tag) gives it.
     pub tag: Option<String>,
+    /// The name of the handle that a page is about, as it stands in an address. [`Site::dress`](crate::Site::dress) makes it the whole address, if the site has one.
+    pub about: Option<String>,
     /// What a page is called. Nothing else has a title.
     pub title: Vec<u8>,
     /// Of a page its main part, which [`Site::dress`](crate::Site::dress) puts between head and foot.
@@ -112,6 +114,7 @@ impl Answer {
     ) -> Answer
         ensures told { Tells status media result }
         ensures keeping { result.keeping ≡ keeping }
+        ensures about { result.about ≡ None }
         ensures title { result.title.items ≡ [] }
         ensures body { result.body ≡ body }
     {
@@ -121,6 +124,7 @@ impl Answer {
             media,
             keeping,
             tag: None,
+            about: None,
             title: Vec::new(alloc),
             body,
         }

@@ -14,7 +14,7 @@
 //!
 //! ```rust
 //! // crates/hdl_web/src/desk.rt
-//! match begin(self.alloc, sent.method, sent.path, sent.query)? {
+//! match begin(self.alloc, own, sent.method, sent.path, sent.query)? {
 //!     Next::Answer(answer) => Ok(Turn::Made(Ok(answer))),
 //!     Next::Ask(question) => self.board.take(question, plain_path(sent)),
 //! }
@@ -28,6 +28,7 @@ mod codes;
 mod escape;
 mod files;
 mod found;
+mod guess;
 mod hops;
 mod json;
 mod keeping;
@@ -66,5 +67,5 @@ pub use resolver::NoAnswer;
 pub use site::Site;
 pub use step::{HOPS_MOST, next_step};
 pub use tag::with_tag;
-pub use url::{is_followed, path_of};
+pub use url::{is_followed, is_site_address, path_of};
 pub use words::{KeptFor, usual_permissions};

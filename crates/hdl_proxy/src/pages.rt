@@ -1,11 +1,13 @@
 //! The pages of the proxy.
 
-ghost use Rattle.std.specs.Prelude.{◌≡◌, ◌≤◌, ◌++◌, List, ℕ, IfOk, OnOk, [], codes, filter, length, option_map, string_bytes, take};
-ghost use Rattle.hdl_proxy.specs.Pages.{advice_part, group_head, known_part, IsGonePage, heading, is_head, is_put, json_part, moment_part, name_part, refusal_title, lead_word, IsTable, written_part, refusal_page, redirect_page, IsFew, IsGroup, IsGroupAt, IsGroupsFrom, IsMany, IsRow, IsWrittenPart, IsSection, IsSections, IsValuesPart, IsPageOf};
+ghost use Rattle.std.specs.Prelude.{◌≡◌, ◌≤◌, ◌++◌, List, ℕ, IfOk, OnOk, Some, [], codes, filter, length, option_copied, option_map, string_bytes, take};
+ghost use Rattle.hdl_proxy.specs.Pages.{advice_part, group_head, known_part, IsGonePage, heading, is_head, is_put, json_part, moment_part, name_part, refusal_title, lead_word, meant_link, meant_part, IsTable, written_part, refusal_page, redirect_page, IsFew, IsGroup, IsGroupAt, IsGroupsFrom, IsMany, IsRow, IsWrittenPart, IsSection, IsSections, IsValuesPart, IsPageOf};
 ghost use Rattle.std.specs.List.{list_any};
 ghost use Rattle.hdl_proxy.specs.Choice.{is_of};
 ghost use Rattle.hdl_proxy.specs.Answer.{IsGone, IsLocated, LeadsTo, Tells};
+ghost use Rattle.hdl_proxy.specs.Guess.{missing_page};
 ghost use Rattle.hdl_proxy.specs.Keeping.{IsKeepingOf};
+ghost use Rattle.hdl_proxy.specs.Link.{name_in_address};
 ghost use Rattle.hdl_proxy.specs.Status.{advice, ends_with_slash, look_again};
 
 use crate::answer::{Answer, Keeping, Media, Status};
@@ -17,6 +19,7 @@ use crate::keeping::keeping_of;
 use crate::link::Link;
 use crate::note::Note;
 use crate::page::Page;
+use crate::url::name_in_address;
 use crate::value_data::put_data;
 use crate::words::{day_of, written_words};
 use hdl_name::Name;
@@ -59,6 +62,7 @@ pub(crate) fn page_answer(status: Status, keeping: Keeping, title: Vec<u8>, page
         media: Media::Page,
         keeping,
         tag: None,
+        about: None,
         title,
         body: page.into_octets(),
     }
@@ -135,6 +139,46 @@ pub(crate) fn put_advice(page: &mut Page, code: u32, asked: &[u8]) -> Result<(),
     page.markup(ANOTHER)
 }
 
+/// Adds the handle that may be meant, as a link to where its address leads.
+#[tactic(auto, unfolding(crate::specs::Pages::meant_link))]
+fn put_meant_link(page: &mut Page, name: &Name) -> Result<(), AllocError>
+    ensures { OnOk result (page.new.octets.items ≡ page.old.octets.items ++ meant_link name.now) }
+{
+    let to = Link::of_name(page.alloc, name)?;
+    page.markup("<p class=\"note\">Did you mean <a href=\"")?;
+    page.text(to.octets())?;
+    page.element("\"><bdi>", name.sent(), "</bdi></a>?</p>\n")
+}
+
+fn put_meant(page: &mut Page, meant: Option<&Name>) -> Result<(), AllocError>
+    ensures { OnOk result (page.new.octets.items ≡ page.old.octets.items ++ meant_part (option_copied meant.entry)) }
+{
+    match meant {
+        Some(name) => put_meant_link(page, name),
+        None => Ok(()),
+    }
+}
+
+/// A page that says that a handle isn't there, which one may be meant, if one is, and what to do.
+#[tactic(auto, unfolding(crate::specs::Guess::missing_page))]
+pub(crate) fn missing_page(
+    alloc: Global,
+    asked: &[u8],
+    meant: Option<&Name>,
+) -> Result<Answer, AllocError>
+    ensures told { IfOk result (Tells Status.NotFound Media.Page) }
+    ensures kept { IfOk result (λ a. a.keeping ≡ Keeping.Never) }
+    ensures title { IfOk result (λ a. a.title.items ≡ refusal_title HANDLE_NOT_FOUND asked.now) }
+    ensures body { IfOk result (λ a. a.body.items ≡ missing_page asked.now (option_copied meant.entry)) }
+{
+    let title = refusal_title(alloc, asked, HANDLE_NOT_FOUND)?;
+    let mut page = Page::new(alloc, b"This handle isn't there.")?;
+    put_name(&mut page, asked)?;
+    put_meant(&mut page, meant)?;
+    put_advice(&mut page, HANDLE_NOT_FOUND, asked)?;
+    Ok(page_answer(Status::NotFound, Keeping::Never, title, page))
+}
+
 /// A page that says why there are no values: why not, what was asked, and what to do.
 #[tactic(auto, unfolding(crate::specs::Pages::refusal_page))]
 pub(crate) fn refusal(
@@ -206,6 +250,7 @@ pub(crate) fn redirect(
         media: Media::Way,
         keeping,
         tag: None,
+        about: None,
         title: Vec::new(alloc),
         body: page.into_octets(),
     })
@@ -430,6 +475,7 @@ pub(crate) fn values_page(
 ) -> Result<Answer, AllocError>
     ensures told { IfOk result (Tells Status.Success Media.Page) }
     ensures kept { IfOk result (λ a. IsKeepingOf values.now a.keeping) }
+    ensures about { IfOk result (λ a. option_map string_bytes a.about ≡ Some (name_in_address name.now)) }
     ensures title { IfOk result (λ a. a.title.items ≡ name.now) }
     ensures body { IfOk result (λ a. IsPageOf name.now note values.now a.body.items) }
 {
@@ -439,7 +485,12 @@ pub(crate) fn values_page(
     put_values(&mut page, values)?;
     page.markup(ANOTHER)?;
     put_json_link(&mut page, name)?;
-    Ok(page_answer(Status::Success, keeping_of(values), title, page))
+    let about = name_in_address(alloc, name.sent())?;
+    let answer = page_answer(Status::Success, keeping_of(values), title, page);
+    Ok(Answer {
+        about: Some(about),
+        ..answer
+    })
 }
 
 #[tactic(auto, unfolding(crate::specs::Pages::known_part))]
@@ -484,5 +535,10 @@ pub(crate) fn gone_page(
 {
     let title = gone_title(alloc, name.sent())?;
     let page = gone_body(alloc, name, gone)?;
-    Ok(page_answer(Status::Gone, keeping_of(values), title, page))
+    let about = name_in_address(alloc, name.sent())?;
+    let answer = page_answer(Status::Gone, keeping_of(values), title, page);
+    Ok(Answer {
+        about: Some(about),
+        ..answer
+    })
 }

@@ -1,7 +1,7 @@
 //! Names as people paste them: with a scheme, or with the address of a proxy in front.
 
-ghost use Rattle.std.specs.Prelude.{◌≡◌, IfOk, MatchOption};
-ghost use Rattle.hdl_proxy.specs.Pasted.{IsBehind, IsBehindAddress, IsBehindDoi, IsBehindEither, IsBehindScheme, IsPasted, IsWritten, Lacks, between_spaces};
+ghost use Rattle.std.specs.Prelude.{◌≡◌, IfOk, MatchOption, option_copied};
+ghost use Rattle.hdl_proxy.specs.Pasted.{IsBehind, IsBehindAddress, IsBehindDoi, IsBehindEither, IsBehindOwn, IsBehindScheme, IsBehindService, IsPasted, IsWritten, Lacks, between_spaces};
 
 use crate::names::decode;
 use std::alloc::{AllocError, Global};
@@ -64,6 +64,26 @@ fn behind_address(text: &[u8]) -> Option<&[u8]>
     }
 }
 
+/// What follows the site's own address, if it has one.
+fn behind_own<'a>(text: &'a [u8], own: Option<&str>) -> Option<&'a [u8]>
+    ensures { MatchOption result (Lacks (IsBehindOwn (option_copied own.entry) text.now)) (λ rest. IsBehindOwn (option_copied own.entry) text.now rest.now) }
+{
+    match own {
+        Some(own) => behind(text, own.as_bytes()),
+        None => None,
+    }
+}
+
+/// What follows the site's own address, or that of a proxy that the world knows.
+fn behind_service<'a>(text: &'a [u8], own: Option<&str>) -> Option<&'a [u8]>
+    ensures { MatchOption result (Lacks (IsBehindService (option_copied own.entry) text.now)) (λ rest. IsBehindService (option_copied own.entry) text.now rest.now) }
+{
+    match behind_own(text, own) {
+        Some(rest) => Some(rest),
+        None => behind_address(text),
+    }
+}
+
 /// The name in a part of a path, with its escapes: what follows a scheme or a proxy's address, or where it has none all of it. A name
 /// that itself begins so has its colon escaped, as every path that this crate writes has.
 pub(crate) fn name_within(text: &[u8]) -> &[u8]
@@ -78,15 +98,19 @@ pub(crate) fn name_within(text: &[u8]) -> &[u8]
     }
 }
 
-/// The name in a text that was pasted: what follows a scheme; of a proxy's address the rest, its escapes read once; or where it has
+/// The name in a text that was pasted: what follows a scheme; of the address of this site or of a proxy the rest, its escapes read once; or where it has
 /// neither all of it.
-pub(crate) fn pasted_name(alloc: Global, text: &[u8]) -> Result<Vec<u8>, AllocError>
-    ensures { IfOk result (λ name. IsPasted text.now name.items) }
+pub(crate) fn pasted_name(
+    alloc: Global,
+    text: &[u8],
+    own: Option<&str>,
+) -> Result<Vec<u8>, AllocError>
+    ensures { IfOk result (λ name. IsPasted (option_copied own.entry) text.now name.items) }
 {
     if let Some(rest) = behind_scheme(text) {
         return Vec::from_slice(alloc, rest);
     }
-    match behind_address(text) {
+    match behind_service(text, own) {
         Some(rest) => decode(alloc, rest),
         None => Vec::from_slice(alloc, text),
     }

@@ -1,6 +1,6 @@
 //! From a request of HTTP to a question, and from its reply to an answer.
 
-ghost use Rattle.std.specs.Prelude.{◌≡◌, ◌≢◌, IfOk, codes, string_bytes};
+ghost use Rattle.std.specs.Prelude.{◌≡◌, ◌≢◌, IfOk, codes, option_copied, string_bytes};
 ghost use Rattle.hdl_proxy.specs.Answer.{Answers, Follows, Goes, IsLocated, Refuses, ShowsFound, ShowsValues, is_json};
 ghost use Rattle.hdl_proxy.specs.Begin.{AsksAddress, AsksFor, IsAnswered, IsBare, IsFile, IsFront, IsLocatedIfAnswered, IsNoHandle, IsOfFile, IsOfHandle, IsOwn, IsReading, LeadsFromPasted, LeadsToName, RefusesMethod, RefusesMethodIn, RefusesRequest, asked_text, fault_sentence, first_keeping, follows_aliases, is_called_back, json_form, page_form, without_slash};
 ghost use Rattle.hdl_proxy.specs.Query.{pairs_of, texts_of};
@@ -49,22 +49,22 @@ pub enum Next {
 }
 
 /// The front page, or the way from its form to a handle's own address.
-fn begin_front(alloc: Global, pairs: &[Pair]) -> Result<Next, AllocError>
-    ensures front { IfOk result (IsFront (texts_of pairs.now)) }
+fn begin_front(alloc: Global, own: Option<&str>, pairs: &[Pair]) -> Result<Next, AllocError>
+    ensures front { IfOk result (IsFront (option_copied own.entry) (texts_of pairs.now)) }
     ensures located { IfOk result IsLocatedIfAnswered }
 {
     match last_named(alloc, pairs, "handle")? {
-        Some(sent) => Ok(Next::Answer(lead_from(alloc, sent)?)),
+        Some(sent) => Ok(Next::Answer(lead_from(alloc, own, sent)?)),
         None => Ok(Next::Answer(pages::front(alloc)?)),
     }
 }
 
 /// The way from what was pasted.
-fn lead_from(alloc: Global, sent: &str) -> Result<Answer, AllocError>
-    ensures leads { IfOk result (LeadsFromPasted sent.now) }
+fn lead_from(alloc: Global, own: Option<&str>, sent: &str) -> Result<Answer, AllocError>
+    ensures leads { IfOk result (LeadsFromPasted (option_copied own.entry) sent.now) }
     ensures located { IfOk result IsLocated }
 {
-    let name = pasted_name(alloc, between_spaces(sent.as_bytes()))?;
+    let name = pasted_name(alloc, between_spaces(sent.as_bytes()), own)?;
     lead(alloc, between_spaces(&name))
 }
 
@@ -126,7 +126,7 @@ fn refuse(alloc: Global, form: Form, name: &[u8], sent: &str, why: &str) -> Resu
 }
 
 /// Whether the form is JSON.
-fn is_json(form: Form) -> bool
+pub(crate) fn is_json(form: Form) -> bool
     ensures { result ≡ is_json form }
 {
     matches!(form, Form::Json | Form::Pretty)
@@ -189,6 +189,7 @@ fn begin_handle(
             locatt,
             aliases: follows_aliases(form, pairs),
             passed: Vec::new(alloc),
+            tried: Vec::new(alloc),
             keeping: first_keeping(pairs),
             anew: has_pair(pairs, "auth"),
         })),
@@ -312,10 +313,16 @@ pub fn options(alloc: Global) -> Answer
     )
 }
 
-/// What is to be done for a request with this method, path and query, each as it was sent; the query without its `?`.
-pub fn begin(alloc: Global, method: &str, path: &str, query: &str) -> Result<Next, AllocError>
+/// What is to be done for a request with this method, path and query, each as it was sent; the query without its `?`. `own` is the address of the site, if it has one.
+pub fn begin(
+    alloc: Global,
+    own: Option<&str>,
+    method: &str,
+    path: &str,
+    query: &str,
+) -> Result<Next, AllocError>
     ensures refuses { ¬ (IsReading method.now) → IfOk result (IsAnswered (RefusesMethod method.now path.now)) }
-    ensures front { IsReading method.now → path.now ≡ codes "/" → IfOk result (IsFront (pairs_of query.now)) }
+    ensures front { IsReading method.now → path.now ≡ codes "/" → IfOk result (IsFront (option_copied own.entry) (pairs_of query.now)) }
     ensures files { IsReading method.now → IsFile path.now → IfOk result (IsAnswered (IsOfFile path.now)) }
     ensures asks { IsReading method.now → IsOwn path.now → IsOfHandle path.now → IfOk result (AsksAddress path.now (pairs_of query.now)) }
     ensures none { IsReading method.now → IsOwn path.now → ¬ (IsOfHandle path.now) → IfOk result (IsAnswered (IsNoHandle path.now)) }
@@ -327,7 +334,7 @@ pub fn begin(alloc: Global, method: &str, path: &str, query: &str) -> Result<Nex
     match path {
         "/" => {
             let pairs = read_pairs(alloc, query)?;
-            begin_front(alloc, &pairs)
+            begin_front(alloc, own, &pairs)
         }
         "/robots.txt" => Ok(Next::Answer(files::robots(alloc)?)),
         "/favicon.ico" => Ok(Next::Answer(files::icon(alloc)?)),

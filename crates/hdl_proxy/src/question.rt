@@ -45,6 +45,8 @@ pub struct Question {
     pub aliases: bool,
     /// The handles whose aliases led here, the one that was asked for first.
     pub passed: Vec<Name>,
+    /// The handles that aren't there by whose names this one may be meant, the one that was asked for first.
+    pub tried: Vec<Name>,
     /// How long the answers on the way here may be cached.
     pub keeping: Keeping,
     /// Whether a server is asked even where a reply is kept.

@@ -1,11 +1,13 @@
-//! What all pages of a site have: its name, its style, and the contact.
+//! What all pages of a site have: its name, its style, the contact, and the address at which they are cited.
 
-ghost use Rattle.std.specs.Prelude.{◌≡◌, ◌++◌, IfOk, OnOk, option_copied};
-ghost use Rattle.hdl_proxy.specs.Site.{Dresses, IsContactIn, IsContactOf, IsContactWay, IsDressed, IsSiteOf, contact_part, foot, front_part, page_of};
+ghost use Rattle.std.specs.Prelude.{◌≡◌, ◌++◌, IfOk, OnOk, option_copied, option_map, string_bytes};
+ghost use Rattle.hdl_proxy.specs.Site.{IsAddressIn, IsBound, IsContactIn, IsContactOf, IsContactWay, IsDressed, IsSiteOf, about_part, address_part, contact_part, foot, front_part, page_of, redirect_keeping, whole_address};
 
-use crate::answer::{Answer, Media};
+use crate::answer::{Answer, Keeping, Media};
 use crate::link::Link;
 use crate::page::Page;
+use crate::step::within;
+use crate::url::is_site_address;
 use std::alloc::{AllocError, Global};
 
 const HEAD: &str = "<!DOCTYPE html>
@@ -16,8 +18,7 @@ const HEAD: &str = "<!DOCTYPE html>
 <link rel=\"icon\" href=\"/favicon.ico\" type=\"image/svg+xml\">
 <title>";
 
-const STYLE: &str = "</title>
-<style>
+const STYLE: &str = "<style>
 :root { color-scheme: light dark; --ink: #1b2421; --soft: #50605a; --line: #d3dedb; --paper: #fff; --jade: #1d6b57 }
 @media (prefers-color-scheme: dark) { :root { --ink: #e3ebe8; --soft: #a5b6b0; --line: #35433e; --paper: #131917; --jade: #7fd1b9 } }
 * { box-sizing: border-box }
@@ -84,9 +85,9 @@ tr { break-inside: avoid }
 </style>
 </head>
 <body>
-<header><a href=\"/\">";
+<header><a href=\"/\"><bdi>";
 
-const MAIN: &str = "</a></header>
+const MAIN: &str = "</bdi></a></header>
 <main>
 ";
 
@@ -97,11 +98,13 @@ struct Contact {
     text: String,
 }
 
-/// A site: its name, and the contact for readers' questions.
+/// A site: its name, the contact for readers' questions, its address, and for how many seconds browsers keep its redirects at most.
 #[derive(Drop)]
 pub struct Site {
     name: String,
     contact: Option<Contact>,
+    address: Option<String>,
+    redirects: u32,
 }
 
 /// The way to a contact: to a URL that is followed, and else by mail. None where it has a control octet.
@@ -137,13 +140,71 @@ fn contact_in(alloc: Global, said: Option<&str>) -> Result<Option<Contact>, Allo
     }
 }
 
+/// The address of a site that was said, if it is one.
+fn address_in(alloc: Global, said: Option<&str>) -> Result<Option<String>, AllocError>
+    ensures { IfOk result (λ address. IsAddressIn (option_copied said.entry) (option_map string_bytes address)) }
+{
+    match said {
+        Some(said) if is_site_address(said) => Ok(Some(String::from_str(alloc, said)?)),
+        _ => Ok(None),
+    }
+}
+
+/// The whole address of a name, where the site and the name are there.
+fn whole_address(
+    alloc: Global,
+    address: &Option<String>,
+    name: &Option<String>,
+) -> Result<Option<String>, AllocError>
+    ensures { IfOk result (λ whole. option_map string_bytes whole ≡ whole_address (option_map string_bytes address.now) (option_map string_bytes name.now)) }
+{
+    let (Some(address), Some(name)) = (address, name) else {
+        return Ok(None);
+    };
+    let mut whole = String::from_str(alloc, address.as_str())?;
+    whole.push_str(name.as_str())?;
+    Ok(Some(whole))
+}
+
+/// What programs read of a page's address: where it is cited, and what a link to it says.
+#[tactic(auto, unfolding(crate::specs::Site::address_part))]
+fn put_address(page: &mut Page, title: &[u8], name: &[u8], address: &[u8]) -> Result<(), AllocError>
+    ensures { OnOk result (page.new.octets.items ≡ page.old.octets.items ++ address_part title.now name.now address.now) }
+{
+    page.element("<link rel=\"canonical\" href=\"", address, "\">\n")?;
+    page.element("<meta property=\"og:url\" content=\"", address, "\">\n")?;
+    page.element("<meta property=\"og:title\" content=\"", title, "\">\n")?;
+    page.element("<meta property=\"og:site_name\" content=\"", name, "\">\n")
+}
+
+fn put_about(
+    page: &mut Page,
+    title: &[u8],
+    name: &[u8],
+    address: &Option<String>,
+) -> Result<(), AllocError>
+    ensures { OnOk result (page.new.octets.items ≡ page.old.octets.items ++ about_part title.now name.now (option_map string_bytes address.now)) }
+{
+    match address {
+        Some(address) => put_address(page, title, name, address.as_bytes()),
+        None => Ok(()),
+    }
+}
+
 #[tactic(auto, unfolding(crate::specs::Site::front_part))]
-fn put_front(page: &mut Page, title: &[u8], name: &[u8]) -> Result<(), AllocError>
-    ensures { OnOk result (page.new.octets.items ≡ page.old.octets.items ++ front_part title.now name.now) }
+fn put_front(
+    page: &mut Page,
+    title: &[u8],
+    name: &[u8],
+    address: &Option<String>,
+) -> Result<(), AllocError>
+    ensures { OnOk result (page.new.octets.items ≡ page.old.octets.items ++ front_part title.now name.now (option_map string_bytes address.now)) }
 {
     page.markup(HEAD)?;
     page.text(title)?;
-    page.element(" - ", name, STYLE)?;
+    page.element(" - ", name, "</title>\n")?;
+    put_about(page, title, name, address)?;
+    page.markup(STYLE)?;
     page.text(name)?;
     page.markup(MAIN)
 }
@@ -154,7 +215,7 @@ fn put_contact(page: &mut Page, contact: &Contact) -> Result<(), AllocError>
 {
     page.markup("<footer>Questions? <a href=\"")?;
     page.text(contact.to.octets())?;
-    page.element("\">", contact.text.as_bytes(), "</a></footer>\n")
+    page.element("\"><bdi>", contact.text.as_bytes(), "</bdi></a></footer>\n")
 }
 
 fn put_foot(page: &mut Page, contact: &Option<Contact>) -> Result<(), AllocError>
@@ -168,23 +229,68 @@ fn put_foot(page: &mut Page, contact: &Option<Contact>) -> Result<(), AllocError
 
 impl Site {
     /// A site with this name, and a contact where there is one: a URL that is followed, or an address of mail. One with a control octet is
-    /// none.
-    pub fn new(alloc: Global, name: &str, contact: Option<&str>) -> Result<Site, AllocError>
-        ensures site { IfOk result (IsSiteOf name.now (option_copied contact.entry)) }
+    /// none. Its address is none if it isn't the address of a site ([`is_site_address`](crate::is_site_address)).
+    pub fn new(
+        alloc: Global,
+        name: &str,
+        contact: Option<&str>,
+        address: Option<&str>,
+        redirects: u32,
+    ) -> Result<Site, AllocError>
+        ensures site { IfOk result (IsSiteOf name.now (option_copied contact.entry) (option_copied address.entry) redirects) }
     {
         let contact = contact_in(alloc, contact)?;
+        let address = address_in(alloc, address)?;
         Ok(Site {
             name: String::from_str(alloc, name)?,
             contact,
+            address,
+            redirects,
         })
     }
 
-    /// The whole page of this main part.
-    fn page(&self, alloc: Global, title: &[u8], main: &Vec<u8>) -> Result<Vec<u8>, AllocError>
-        ensures { IfOk result (λ octets. octets.items ≡ page_of self.now title.now main.now.items) }
+    /// The site's address, if it has one.
+    pub fn address(&self) -> Option<&str>
+        ensures { option_copied result ≡ option_map string_bytes self.now.address }
+    {
+        match &self.address {
+            Some(address) => Some(address.as_str()),
+            None => None,
+        }
+    }
+
+    /// How long browsers keep a redirect at most.
+    fn redirect_keeping(&self) -> Keeping
+        ensures { result ≡ redirect_keeping self.now.redirects }
+    {
+        match self.redirects {
+            0 => Keeping::Never,
+            seconds => Keeping::Seconds(seconds),
+        }
+    }
+
+    /// The answer as browsers may keep it: a redirect no longer than this site says, and all else as it is.
+    pub fn bound(&self, answer: Answer) -> Answer
+        ensures { IsBound self.now answer result }
+    {
+        if answer.location.is_none() {
+            return answer;
+        }
+        within(self.redirect_keeping(), answer)
+    }
+
+    /// The whole page of this main part, at this address.
+    fn page(
+        &self,
+        alloc: Global,
+        title: &[u8],
+        address: &Option<String>,
+        main: &Vec<u8>,
+    ) -> Result<Vec<u8>, AllocError>
+        ensures { IfOk result (λ octets. octets.items ≡ page_of self.now title.now (option_map string_bytes address.now) main.now.items) }
     {
         let mut page = Page::empty(alloc);
-        put_front(&mut page, title, self.name.as_bytes())?;
+        put_front(&mut page, title, self.name.as_bytes(), address)?;
         page.part(main)?;
         page.markup("</main>\n")?;
         put_foot(&mut page, &self.contact)?;
@@ -199,15 +305,12 @@ impl Site {
         if answer.media != Media::Page {
             return Ok(answer);
         }
-        let body = self.page(alloc, &answer.title, &answer.body)?;
+        let about = whole_address(alloc, &self.address, &answer.about)?;
+        let body = self.page(alloc, &answer.title, &about, &answer.body)?;
         Ok(Answer {
-            status: answer.status,
-            location: answer.location,
-            media: Media::Page,
-            keeping: answer.keeping,
-            tag: answer.tag,
-            title: answer.title,
+            about,
             body,
+            ..answer
         })
     }
 }

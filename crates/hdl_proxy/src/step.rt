@@ -1,19 +1,21 @@
-//! What is next for a question that was answered: the handle that its alias names, or the answer.
+//! What is next for a question that was answered: the handle that its alias names, one that may be meant, or the answer.
 
-ghost use Rattle.std.specs.Prelude.{◌≡◌, IfOk, option_copied};
+ghost use Rattle.std.specs.Prelude.{◌≡◌, IfOk, option_copied, slice_get};
 ghost use Rattle.hdl_proxy.specs.Begin.{IsLocatedIfAnswered};
 ghost use Rattle.hdl_proxy.specs.Answer.{IsLocated};
-ghost use Rattle.hdl_proxy.specs.Step.{Ends, Hops, IsNamed, IsOfAlias, IsStep, IsWithin, LeadsNowhere, first_of};
+ghost use Rattle.hdl_proxy.specs.Step.{Ends, EndsAt, Hops, IsNamed, IsOfAlias, IsStep, IsWithin, LeadsNowhere, Settles, TriesNext, first_of, is_missing, is_there, may_try, meant_in};
 
 use crate::alias::{Hop, hop_in, is_among, way_words};
 use crate::answer::{Answer, Keeping, Media, Status};
-use crate::codes::TOO_FAR;
+use crate::codes::{HANDLE_NOT_FOUND, TOO_FAR, VALUE_NOT_FOUND};
 use crate::found::{Found, read_answer};
+use crate::guess::guess_after;
 use crate::hops::{nowhere_page, put_alias};
 use crate::json::refusal;
 use crate::keeping::sooner;
 use crate::page::Page;
-use crate::proxy::{Next, answer_found};
+use crate::pages::missing_page;
+use crate::proxy::{Next, answer_found, is_json};
 use crate::question::{Form, Question};
 use crate::resolver::NoAnswer;
 use hdl_name::Name;
@@ -22,12 +24,15 @@ use std::alloc::{AllocError, Global};
 /// The most aliases that are followed one after the other.
 pub const HOPS_MOST: usize = 10;
 
+/// The most other names that are tried where a handle isn't there.
+const TRIES_MOST: usize = 2;
+
 const CIRCLE: &str = "Its aliases lead in a circle:";
 
 const BEYOND: &str = "Its aliases lead on beyond ten handles:";
 
 /// The same answer, which others may keep no longer than this.
-fn within(keeping: Keeping, answer: Answer) -> Answer
+pub(crate) fn within(keeping: Keeping, answer: Answer) -> Answer
     ensures { IsWithin keeping answer result }
 {
     Answer {
@@ -142,13 +147,100 @@ fn follow(alloc: Global, question: Question, hop: Hop) -> Result<Next, AllocErro
         locatt,
         aliases,
         passed: asked,
+        tried: Vec::new(alloc),
         keeping: sooner(keeping, hop.keeping),
         anew,
     }))
 }
 
+fn is_missing(found: &Found) -> bool
+    ensures { result ≡ is_missing found.now }
+{
+    matches!(found, Found::Refused(HANDLE_NOT_FOUND))
+}
+
+/// Whether a handle is there, if only by what isn't public.
+fn is_there(found: &Found) -> bool
+    ensures { result ≡ is_there found.now }
+{
+    matches!(found, Found::Values(_) | Found::Refused(VALUE_NOT_FOUND))
+}
+
+/// Whether another name is tried: on a page, in place of the handle that was asked for itself, and two at most.
+fn may_try(question: &Question, found: &Found) -> bool
+    ensures { result ≡ may_try question.now found.now }
+{
+    is_missing(found)
+        && !is_json(question.form)
+        && question.passed.is_empty()
+        && question.tried.len() < TRIES_MOST
+}
+
+/// What is next where the handle of this question isn't there: another one that may be meant, or the answer.
+fn try_next(alloc: Global, question: Question) -> Result<Next, AllocError>
+    ensures tries { IfOk result (TriesNext question) }
+    ensures located { IfOk result IsLocatedIfAnswered }
+{
+    let mut tried = question.tried;
+    tried.push(question.name)?;
+    match guess_after(alloc, &tried, first_of(&tried))? {
+        Some(name) => Ok(Next::Ask(Question {
+            name,
+            form: Form::Page,
+            indexes: Vec::new(alloc),
+            types: Vec::new(alloc),
+            append: Vec::new(alloc),
+            locatt: String::new(alloc),
+            aliases: false,
+            passed: Vec::new(alloc),
+            tried,
+            keeping: Keeping::Never,
+            anew: question.anew,
+        })),
+        None => Ok(Next::Answer(missing_page(alloc, first_of(&tried), None)?)),
+    }
+}
+
+/// The handle of this question, if it may be meant: if it is there.
+fn meant_in<'a>(question: &'a Question, found: &Found) -> Option<&'a Name>
+    ensures { option_copied result ≡ meant_in question.now found.now }
+{
+    if is_there(found) {
+        Some(&question.name)
+    } else {
+        None
+    }
+}
+
+/// The answer to a question of whose handle this was found: if it was tried in place of another one, whether it is meant.
+fn end_at(
+    alloc: Global,
+    question: &Question,
+    found: &Found,
+    chance: u64,
+) -> Result<Answer, AllocError>
+    ensures ends { IfOk result (EndsAt (slice_get question.now.tried.items 0) question.now found.now) }
+    ensures located { IfOk result IsLocated }
+{
+    match question.tried.first() {
+        Some(asked) => missing_page(alloc, asked.sent(), meant_in(question, found)),
+        None => end(alloc, question, found, chance),
+    }
+}
+
+/// What is next for a question of whose handle this was found, where no alias is followed.
+fn settle(alloc: Global, question: Question, found: &Found, chance: u64) -> Result<Next, AllocError>
+    ensures settles { IfOk result (Settles question found.now) }
+    ensures located { IfOk result IsLocatedIfAnswered }
+{
+    if may_try(&question, found) {
+        return try_next(alloc, question);
+    }
+    Ok(Next::Answer(end_at(alloc, &question, found, chance)?))
+}
+
 /// What is next for a question, now that a server gave this. Where aliases are followed and the handle has one, the handle that it names is
-/// asked for, unless that was asked for already or ten aliases were followed; else the answer is there. So at most ten questions come of one. `chance`
+/// asked for, unless that was asked for already or ten aliases were followed. Where a page asks for a handle that isn't there, at most two others are tried that may be meant. Else the answer is there. So at most ten questions come of one. `chance`
 /// is any number, by which one of several locations is chosen.
 pub fn next_step(
     alloc: Global,
@@ -162,6 +254,6 @@ pub fn next_step(
     let found = read_answer(alloc, question.name.sent(), answered)?;
     match hop_in(alloc, &found, question.aliases)? {
         Some(hop) => follow(alloc, question, hop),
-        None => Ok(Next::Answer(end(alloc, &question, &found, chance)?)),
+        None => settle(alloc, question, &found, chance),
     }
 }

@@ -49,12 +49,9 @@ fn not_modified(alloc: Global, answer: Answer, tag: String) -> Answer
 {
     Answer {
         status: Status::NotModified,
-        location: answer.location,
-        media: answer.media,
-        keeping: answer.keeping,
         tag: Some(tag),
-        title: answer.title,
         body: Vec::new(alloc),
+        ..answer
     }
 }
 
@@ -62,13 +59,8 @@ fn carrying(answer: Answer, tag: String) -> Answer
     ensures { Carries answer (string_bytes tag) result }
 {
     Answer {
-        status: answer.status,
-        location: answer.location,
-        media: answer.media,
-        keeping: answer.keeping,
         tag: Some(tag),
-        title: answer.title,
-        body: answer.body,
+        ..answer
     }
 }
 

@@ -3,7 +3,7 @@
 ghost use Rattle.std.specs.Prelude.{◌≡◌, ◌↔◌, ◌∷◌, IsTrue, IfOk, All, option_map};
 ghost use Rattle.std.specs.String.{string_bytes};
 ghost use Rattle.percent_encoding.specs.Percent.{percent_encode};
-ghost use Rattle.hdl_proxy.specs.Url.{Begins, HasFollowedScheme, IsFollowed, IsGraphic, extend, has_path};
+ghost use Rattle.hdl_proxy.specs.Url.{Begins, HasFollowedScheme, IsFollowed, IsGraphic, IsSiteAddress, extend, has_path};
 
 use percent_encoding::{AsciiSet, CONTROLS, NON_ALPHANUMERIC, ascii_set, percent_encode};
 use std::alloc::{AllocError, Global};
@@ -95,6 +95,25 @@ pub fn address(alloc: Global, url: &[u8]) -> Result<String, AllocError>
     let mut text = String::new(alloc);
     percent_encode(url, IN_LOCATION).append_to(&mut text)?;
     Ok(text)
+}
+
+/// A handle's name as it stands in an address: escaped but for its slashes.
+pub(crate) fn name_in_address(alloc: Global, name: &[u8]) -> Result<String, AllocError>
+    ensures { IfOk result (λ text. string_bytes text ≡ percent_encode IN_PATH name.now) }
+{
+    let mut text = String::new(alloc);
+    percent_encode(name, IN_PATH).append_to(&mut text)?;
+    Ok(text)
+}
+
+/// Whether this is the address of a site, from its scheme to the slash after its host: `http://` or `https://`, and graphic ASCII with a slash at its end.
+pub fn is_site_address(address: &str) -> bool
+    ensures { IsTrue result ↔ IsSiteAddress address.now }
+{
+    let octets = address.as_bytes();
+    (begins(octets, b"http://") || begins(octets, b"https://"))
+        && octets.ends_with(b"/")
+        && octets.iter().all(|octet| *octet >= 33 && *octet <= 126)
 }
 
 /// The path of a handle's own address: `/` and the name, escaped but for its slashes.

@@ -4,8 +4,8 @@ use Rattle.hdl_value.specs.Place.{Place}
 use Rattle.hdl_rows.specs.declared.reads.TheConstants.{CALL_OCTETS}
 use Rattle.hdl_rows.specs.Heads.{heads_of}
 use Rattle.hdl_rows.specs.Reads.{of_value, values_octets, names_octets}
-use Rattle.hdl_rows.specs.Table.{Table, at, values_of, names_of}
-use Rattle.hdl_reach.specs.Cost.{Most, HasAtMost, ReadsWithin, value_cost, heads_cost, values_cost, names_cost}
+use Rattle.hdl_rows.specs.Table.{Table, at, names_of}
+use Rattle.hdl_reach.specs.Cost.{Most, HasAtMost, ReadsWithin, value_cost, heads_cost, grants_cost, names_cost, grants_reads}
 
 pub unread : (t : Table) (cost : Most → ℕ) (n m : ℕ) → m ≡ n → ReadsWithin t cost n m
 unread t cost n m same most has = omega (arith, same)
@@ -16,8 +16,8 @@ value_read t p old new read most has = omega (arith, read, has.value p)
 pub heads_read : (t : Table) (h : List ℕ) (old new : ℕ) → new ≤ old + (CALL_OCTETS + values_octets (heads_of t h)) → ReadsWithin t heads_cost old new
 heads_read t h old new read most has = omega (arith, read, has.heads h)
 
-pub values_read : (t : Table) (h : List ℕ) (old new : ℕ) → new ≤ old + (CALL_OCTETS + values_octets (values_of t h)) → ReadsWithin t values_cost old new
-values_read t h old new read most has = omega (arith, read, has.values h)
+pub grants_read : (t : Table) (h : List ℕ) (old new : ℕ) → new ≤ old + grants_reads t h → ReadsWithin t grants_cost old new
+grants_read t h old new read most has = omega (arith, read, has.heads h, has.admins h)
 
 -- a list that was given, or a call that was refused
 pub names_given : (t : Table) (a : List ℕ) (given : ℕ) (old new : ℕ) → given ≡ names_octets (names_of t a) → new ≤ old + (CALL_OCTETS + given) → ReadsWithin t names_cost old new

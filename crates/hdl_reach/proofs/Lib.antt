@@ -14,3 +14,4 @@ pub mod Agreement
 pub mod Looks
 pub mod Costs
 pub mod Most
+pub mod Granted

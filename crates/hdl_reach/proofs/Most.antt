@@ -1,5 +1,5 @@
 -- Bounds of what a table's values, handles and lists count.
-use Rattle.std.proofs.Common.{◌≡◌, ◌≤◌, ◌+◌, ℕ, List, [], ◌∷◌, Bool, true, false, cond, ◌&&◌, map, filter, Option, Some, None, sum_by, refl, sym, ap, ◌∙◌, subst, arith, Ordering, Equal}
+use Rattle.std.proofs.Common.{◌≡◌, ◌≤◌, ◌+◌, ◌*◌, ℕ, List, [], ◌∷◌, Bool, true, false, cond, ◌&&◌, map, filter, Option, Some, None, sum_by, refl, sym, ap, ◌∙◌, subst, arith, Ordering, Equal}
 use Rattle.std.specs.List.{list_any}
 use Rattle.std.specs.Cmp.{IsTotalOrder}
 use Rattle.std.proofs.lemmas.List.Sums.{sum_by-cons}
@@ -16,7 +16,9 @@ use Rattle.hdl_rows.specs.Table.{Table, at, values_of, names_of, in_order, key}
 use Rattle.hdl_rows.specs.Heads.{head, heads_of}
 use Rattle.hdl_rows.specs.Reads.{of_value, value_octets, values_octets, name_octets, names_octets}
 use Rattle.hdl_rows.proofs.ShelfLemmas.{nothing, find-keys}
-use Rattle.hdl_reach.specs.Cost.{HaveMost}
+use Rattle.hdl_rows.specs.declared.reads.TheConstants.{CALL_OCTETS}
+use Rattle.hdl_value.specs.Refs.{is_admin}
+use Rattle.hdl_reach.specs.Cost.{HaveMost, admin_reads, admins_reads}
 
 -- ---- the entries whose keys pass a test
 
@@ -64,6 +66,16 @@ heads_of_less (v ∷ vs) = omega (arith, sum_by-cons value_octets (head v) (map 
 heads_less : (t : Table) (h : List ℕ) → values_octets (heads_of t h) ≤ values_octets (finite.values t.values)
 heads_less t h = omega (arith, heads_of_less (values_of t h), values_less t h)
 
+admin_less : (v : Value) → admin_reads v ≤ 2 * value_octets v
+admin_less v = elim (is_admin v) as (λ b. cond b (CALL_OCTETS + value_octets v) 0 ≤ 2 * value_octets v) [ true ↦ omega arith | false ↦ omega arith ]
+
+admins_of_less : (vs : List Value) → admins_reads vs ≤ 2 * values_octets vs
+admins_of_less [] = omega arith
+admins_of_less (v ∷ vs) = omega (arith, admin_less v, sum_by-cons admin_reads v vs, sum_by-cons value_octets v vs, admins_of_less vs)
+
+admins_less : (t : Table) (h : List ℕ) → admins_reads (values_of t h) ≤ 2 * values_octets (finite.values t.values)
+admins_less t h = omega (arith, admins_of_less (values_of t h), values_less t h)
+
 -- ---- handles
 
 abbrev keys : set.FinSet handle_cmp → FinMap handle_cmp (Unit {0})
@@ -92,6 +104,6 @@ names_less t a =
 
 pub all_have_most : HaveMost
 all_have_most t = (
-  record { value = values_octets (finite.values t.values); heads = values_octets (finite.values t.values); values = values_octets (finite.values t.values); names = names_octets (in_order t.handles) },
-  record { value = value_less t; heads = heads_less t; values = values_less t; names = names_less t },
+  record { value = values_octets (finite.values t.values); heads = values_octets (finite.values t.values); admins = 2 * values_octets (finite.values t.values); names = names_octets (in_order t.handles) },
+  record { value = value_less t; heads = heads_less t; admins = admins_less t; names = names_less t },
 )

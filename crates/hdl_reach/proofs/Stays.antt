@@ -1,5 +1,5 @@
 -- A search of one table is one of another, which differs at a handle alone of which it knows nothing.
-use Rattle.std.proofs.Common.{◌≡◌, ◌≢◌, ◌⊎◌, inl, inr, ℕ, List, Bool, true, false, Option, Some, None, refl, sym, ap, subst, ◌∙◌, IsTrue, IsSome, true≢false}
+use Rattle.std.proofs.Common.{◌≡◌, ◌≢◌, ◌⊎◌, inl, inr, ℕ, List, Bool, false, Option, Some, None, refl, sym, ap, subst, ◌∙◌, IsTrue, IsSome, true≢false}
 use Rattle.std.specs.Prelude.{bytes_eq}
 use Rattle.std.proofs.lemmas.Slice.Eq.{bytes_eq-Decides}
 use Rattle.hdl_value.specs.Place.{Place}

@@ -6,3 +6,4 @@ pub mod Looks
 pub mod Cost
 pub mod Views
 pub mod Laws
+pub mod Granted

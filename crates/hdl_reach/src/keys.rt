@@ -17,14 +17,27 @@ pub(crate) fn key_of(alloc: Global, one: &Reference) -> Result<PlaceKey, AllocEr
     Ok((Vec::from_slice(alloc, one.name.canon())?, one.index))
 }
 
+fn copy_of_name(alloc: Global, name: &Name) -> Result<Name, AllocError>
+    ensures { IfOk result (λ copy. copy ≡ name.now) }
+{
+    Name::read(alloc, name.sent()).map_err(|_| AllocError)
+}
+
+/// A reference to no value of the handle yet.
+pub(crate) fn reference_to(alloc: Global, name: &Name) -> Result<Reference, AllocError>
+    ensures { IfOk result (λ here. here.name ≡ name.now) }
+{
+    Ok(Reference {
+        name: copy_of_name(alloc, name)?,
+        index: 0,
+    })
+}
+
 pub(crate) fn copy_of(alloc: Global, one: &Reference) -> Result<Reference, AllocError>
     ensures { IfOk result (λ copy. copy ≡ one.now) }
 {
-    match Name::read(alloc, one.name.sent()) {
-        Ok(name) => Ok(Reference {
-            name,
-            index: one.index,
-        }),
-        Err(_) => Err(AllocError),
-    }
+    Ok(Reference {
+        name: copy_of_name(alloc, &one.name)?,
+        index: one.index,
+    })
 }

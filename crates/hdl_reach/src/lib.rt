@@ -32,6 +32,8 @@
 //!   looked up. The price is that a list is looked up again if a mask with new bits leads to it: never if all HS_ADMIN
 //!   values have the same mask, and at most as often as they have different ones. Also, the search doesn't end early:
 //!   it looks up all that the lists of a handle reach, even if the first HS_ADMIN value names the reference directly.
+//! - **A search begins with the heads of the handle's values**, and then reads those of type HS_ADMIN, each by a call of
+//!   its own. So other values cost no more than their heads, however large they are.
 //! - **What is known is the least solution of grants and lists** (`IsFound`): it is within every assignment of masks
 //!   that contains the grants and that each known reference passes on to the references in its list. At the end it is
 //!   such an assignment itself, and so are the masks by definition.

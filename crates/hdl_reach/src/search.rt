@@ -4,17 +4,16 @@ ghost use Rattle.std.specs.Prelude.{◌≡◌, ◌⊎◌, ◌≤◌, ◌<◌, �
 ghost use Rattle.std.specs.Bool.{Decides};
 ghost use Rattle.hdl_name.specs.Name.{canonical};
 ghost use Rattle.hdl_value.specs.Refs.{place_of};
-ghost use Rattle.hdl_rows.specs.declared.reads.TheConstants.{CALL_OCTETS};
-ghost use Rattle.hdl_rows.specs.Reads.{values_octets};
-ghost use Rattle.hdl_rows.specs.Table.{Table, values_of, AreRefusalsAfter};
-ghost use Rattle.hdl_reach.specs.Cost.{ReadsWithin, value_cost};
-ghost use Rattle.hdl_reach.specs.Reach.{IsMask};
+ghost use Rattle.hdl_rows.specs.Table.{Table, values_of, values_in, AreRefusalsAfter};
+ghost use Rattle.hdl_reach.specs.Cost.{ReadsWithin, value_cost, grants_reads};
+ghost use Rattle.hdl_reach.specs.Reach.{IsMask, grants};
 ghost use Rattle.hdl_reach.specs.Search.{handle_of, IsFound, IsSearch, IsDone, IsFurther, AgreeBeside};
 ghost use Rattle.hdl_reach.specs.Looks.{looks_left};
 ghost use Rattle.hdl_reach.specs.Views.{mask_of, grants_in};
 
 use crate::found::Found;
-use crate::grants::{Grant, grants_of};
+use crate::grants::{Grant, grants_by};
+use crate::keys::reference_to;
 use crate::lists::list_at;
 use hdl_name::Name;
 use hdl_rows::{Refused, Rows};
@@ -42,13 +41,12 @@ fn start_of(alloc: Global, grants: &[Grant]) -> Result<Found, AllocError>
     Ok(found)
 }
 
-/// A search from these values of a handle that hasn't looked up anything yet.
-fn search_from(alloc: Global, name: &Name, values: &[Value]) -> Result<Search, AllocError>
-    ensures search { (t : Table) → values_of t (canonical name.now) ≡ values.now → IfOk result (IsSearch t) }
+/// A search from these grants of a handle that hasn't looked up anything yet.
+fn search_from(alloc: Global, name: &Name, starts: &[Grant]) -> Result<Search, AllocError>
+    ensures search { (t : Table) → grants_in starts.now ≡ grants (values_of t (canonical name.now)) → IfOk result (IsSearch t) }
     ensures handle { IfOk result (λ search. handle_of search ≡ canonical name.now) }
 {
-    let grants = grants_of(alloc, values)?;
-    let found = start_of(alloc, &grants)?;
+    let found = start_of(alloc, starts)?;
     Ok(Search {
         handle: Vec::from_slice(alloc, name.canon())?,
         found,
@@ -56,17 +54,31 @@ fn search_from(alloc: Global, name: &Name, values: &[Value]) -> Result<Search, A
     })
 }
 
+/// The heads that were found, none if the handle is absent.
+fn heads_in(alloc: Global, found: Option<Vec<Value>>) -> Vec<Value>
+    ensures { result.items ≡ values_in found }
+{
+    match found {
+        Some(heads) => heads,
+        None => Vec::new(alloc),
+    }
+}
+
 impl Search {
-    /// Begins a search for the administrators of this handle. No list is looked up yet. Refused: the table refused a
-    /// look, and its count rose by one; or memory was refused, and the count is as it was.
+    /// Begins a search for the administrators of this handle: looks at the heads of its values, and at those of type
+    /// HS_ADMIN. No list is looked up yet. Refused: the table refused a look, and its count rose by one; or memory was
+    /// refused, and the count is as it was.
     pub fn begin<R: Rows>(alloc: Global, rows: &mut R, name: &Name) -> Result<Search, Refused>
         ensures unchanged { R.content rows.new ≡ R.content rows.old }
         ensures begun { IfOk result (λ search. IsSearch (R.content rows.old) search × (handle_of search ≡ canonical name.now)) }
         ensures count { AreRefusalsAfter result (R.refused rows.old) (R.refused rows.new) }
-        ensures cost { R.reads rows.new ≤ R.reads rows.old + (CALL_OCTETS + values_octets (values_of (R.content rows.old) (canonical name.now))) }
+        ensures cost { R.reads rows.new ≤ R.reads rows.old + grants_reads (R.content rows.old) (canonical name.now) }
     {
-        let values = rows.values(name)?;
-        Ok(search_from(alloc, name, &values)?)
+        let found = rows.heads(name)?;
+        let heads = heads_in(alloc, found);
+        let here = reference_to(alloc, name)?;
+        let starts = grants_by(alloc, rows, here, &heads)?;
+        Ok(search_from(alloc, name, &starts)?)
     }
 
     /// Whether it is a search for this handle.

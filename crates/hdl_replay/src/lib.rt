@@ -11,12 +11,11 @@
 //! between text and lines, over a table that is there already.
 //!
 //! ```rust
-//! // crates/hdl_program_tests/src/scripts.rt
-//! let mut input = script;
-//! let mut printed = Vec::new(alloc);
-//! let mut told = Vec::new(alloc);
-//! let rows = PlainRows::new(alloc);
-//! let ended = replay(alloc, rows, &mut input, &mut printed, &mut told);
+//! // crates/handled/src/replaying.rt
+//! let mut input = rt.stdin();
+//! let mut output = rt.stdout();
+//! let mut faults = rt.stderr();
+//! Ok(replay(rt.alloc(), rows, &mut input, &mut output, &mut faults))
 //! ```
 #![tactic(auto)]
 

@@ -1,5 +1,5 @@
 -- Whom to ask for the handles of a prefix.
-use Rattle.std.specs.Prelude.{◌==◌, ◌++◌, ℕ, Bool, true, false, not, List, [], ◌∷◌, map, filter, take, Option, Some, None, if◌then◌else◌}
+use Rattle.std.specs.Prelude.{◌==◌, ◌++◌, ◌&&◌, ℕ, Bool, true, false, not, List, [], ◌∷◌, map, filter, take, Option, Some, None, if◌then◌else◌}
 use Rattle.std.specs.List.{list_any}
 use Rattle.std.specs.Str.{bytes_eq}
 use Rattle.hdl_routes.specs.declared.route.Route.{Route}
@@ -24,8 +24,12 @@ is_named prefix routes = list_any (has prefix) routes
 abbrev pub is_asked : List ℕ → Bool → Route → Bool
 is_asked prefix named route = if named then has prefix route else is_open route
 
-abbrev pub places_for : List ℕ → List Route → List ℕ
-places_for prefix routes = map (λ route. route.place) (filter (is_asked prefix (is_named prefix routes)) routes)
+-- the servers that are asked for it and that are no standby, and the standbys among them, in the order of the command line
+abbrev pub servers_for : List ℕ → List Route → List ℕ
+servers_for prefix routes = map (λ route. route.place) (filter (λ route. is_asked prefix (is_named prefix routes) route && not route.is_standby) routes)
+
+abbrev pub standbys_for : List ℕ → List Route → List ℕ
+standbys_for prefix routes = map (λ route. route.place) (filter (λ route. is_asked prefix (is_named prefix routes) route && route.is_standby) routes)
 
 -- the place that is known to have the prefix comes before the others
 abbrev pub is_known : Option ℕ → ℕ → Bool
@@ -35,6 +39,10 @@ is_known (Some known) place = known == place
 abbrev pub known_first : Option ℕ → List ℕ → List ℕ
 known_first known places = filter (is_known known) places ++ filter (λ place. not (is_known known place)) places
 
--- a change goes to the first alone of those that were named with the prefix, and where none was to those that were named without prefixes, in turn
+-- standbys are asked behind all others
+abbrev pub places_for : Option ℕ → List ℕ → List Route → List ℕ
+places_for known prefix routes = known_first known (servers_for prefix routes) ++ standbys_for prefix routes
+
+-- a change goes to no standby: to the first alone of the servers that were named with the prefix, and where none was to those that were named without prefixes, in turn
 abbrev pub places_to_change : List ℕ → List Route → List ℕ
-places_to_change prefix routes = if is_named prefix routes then take 1 (places_for prefix routes) else places_for prefix routes
+places_to_change prefix routes = if is_named prefix routes then take 1 (servers_for prefix routes) else servers_for prefix routes

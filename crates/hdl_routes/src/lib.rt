@@ -9,7 +9,7 @@
 //! ```
 //!
 //! This crate has no sockets, no threads and no clock: moments are milliseconds that the caller gives. It promises that a prefix is
-//! asked for at just the servers that were named with it, or where none was at those without prefixes; that what is remembered of
+//! asked for at just the servers that were named with it, or where none was at those without prefixes; that standbys are asked last, and get no changes; that what is remembered of
 //! prefixes changes only the order; that changes of a prefix with which servers were named go to the first of them alone; that a server that failed is
 //! tried by one question at a time; and that a kept reply is found by its own request alone, while it is fresh and its handle wasn't changed.
 //!

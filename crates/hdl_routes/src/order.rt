@@ -1,7 +1,7 @@
 //! Which servers to ask for a handle.
 
 ghost use Rattle.std.specs.Prelude.{◌≡◌, IfOk, filter, not};
-ghost use Rattle.hdl_routes.specs.Order.{has, is_open, is_named, is_asked, is_known, places_for, known_first, places_to_change};
+ghost use Rattle.hdl_routes.specs.Order.{has, is_open, is_named, is_asked, servers_for, standbys_for, is_known, known_first, places_for, places_to_change};
 
 use crate::route::Route;
 use std::alloc::{AllocError, Global};
@@ -89,35 +89,51 @@ fn known_first(
     Ok(turn)
 }
 
-/// The places of the servers that are asked for handles of this prefix, in the order of the command line.
-fn places_of(alloc: Global, routes: &[Route], prefix: &[u8]) -> Result<Vec<usize>, AllocError>
-    ensures { IfOk result (λ places. places.items ≡ places_for prefix.now routes.now) }
+/// The places of the servers that are asked for handles of this prefix, without standbys, in the order of the command line.
+fn servers_for(alloc: Global, routes: &[Route], prefix: &[u8]) -> Result<Vec<usize>, AllocError>
+    ensures { IfOk result (λ places. places.items ≡ servers_for prefix.now routes.now) }
 {
     let named = is_named(routes, prefix);
     let places = routes
         .iter()
-        .filter(|route| is_asked(route, prefix, named))
+        .filter(|route| is_asked(route, prefix, named) && !route.is_standby)
         .map(|route| route.place)
         .collect(alloc)?;
     Ok(places)
 }
 
-/// The places of the servers that are asked for handles of this prefix, in turn: of those that were named with it, or where none was of those that were
-/// named without prefixes, in the order of the command line, but for the one that is known to have the prefix, which comes first.
+/// The places of the standbys that are asked for handles of this prefix, in the order of the command line.
+fn standbys_for(alloc: Global, routes: &[Route], prefix: &[u8]) -> Result<Vec<usize>, AllocError>
+    ensures { IfOk result (λ places. places.items ≡ standbys_for prefix.now routes.now) }
+{
+    let named = is_named(routes, prefix);
+    let places = routes
+        .iter()
+        .filter(|route| is_asked(route, prefix, named) && route.is_standby)
+        .map(|route| route.place)
+        .collect(alloc)?;
+    Ok(places)
+}
+
+/// The places of the servers that are asked for handles of this prefix, in turn: of those that were named with it, or if none was of those that were
+/// named without prefixes, in the order of the command line. The one that is known to have the prefix comes first, unless it is a standby; standbys come last.
 pub fn places_for(
     alloc: Global,
     routes: &[Route],
     prefix: &[u8],
     known: Option<usize>,
 ) -> Result<Vec<usize>, AllocError>
-    ensures { IfOk result (λ turn. turn.items ≡ known_first known (places_for prefix.now routes.now)) }
+    ensures { IfOk result (λ turn. turn.items ≡ places_for known prefix.now routes.now) }
 {
-    let places = places_of(alloc, routes, prefix)?;
-    known_first(alloc, &places, known)
+    let servers = servers_for(alloc, routes, prefix)?;
+    let mut turn = known_first(alloc, &servers, known)?;
+    let standbys = standbys_for(alloc, routes, prefix)?;
+    turn.extend_from_slice(&standbys)?;
+    Ok(turn)
 }
 
 /// The places of the servers to which changes of handles of this prefix go, in the order of the command line: the first one alone of those that were named
-/// with it, and where none was those that were named without prefixes, of which the first that doesn't refer elsewhere is the only one.
+/// with it, and if none was those that were named without prefixes, of which the first that doesn't refer elsewhere is the only one. No change goes to a standby.
 pub fn places_to_change(
     alloc: Global,
     routes: &[Route],
@@ -125,7 +141,7 @@ pub fn places_to_change(
 ) -> Result<Vec<usize>, AllocError>
     ensures { IfOk result (λ places. places.items ≡ places_to_change prefix.now routes.now) }
 {
-    let mut places = places_of(alloc, routes, prefix)?;
+    let mut places = servers_for(alloc, routes, prefix)?;
     if is_named(routes, prefix) {
         places.truncate(1);
     }

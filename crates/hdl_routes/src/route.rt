@@ -12,10 +12,12 @@ use std::alloc::{AllocError, Global};
 /// The authority of administrative handles, which are of the prefix that they name.
 const ADMIN_AUTHORITY: &str = "0.na";
 
-/// A server: its place among those of the command line, where it listens, and the prefixes that it was named with, in canonical form.
+/// A server: its place among those of the command line, whether it is a standby, which answers only if no other server does, where it listens, and the prefixes that it was
+/// named with, in canonical form.
 #[derive(Drop)]
 pub struct Route {
     pub place: usize,
+    pub is_standby: bool,
     /// `HOST:PORT`
     pub address: String,
     pub prefixes: Vec<Octets>,
@@ -66,8 +68,14 @@ fn parts_of(word: &str) -> (&str, Option<&str>)
 
 /// The server that a word names, `HOST:PORT`, or `HOST:PORT=PREFIX,..` with the prefixes that it is asked for. Whether the address leads anywhere is
 /// seen when it is connected to.
-pub fn read_route(alloc: Global, place: usize, word: &str) -> Result<Route, RouteFault>
+pub fn read_route(
+    alloc: Global,
+    place: usize,
+    is_standby: bool,
+    word: &str,
+) -> Result<Route, RouteFault>
     ensures place { IfOk result (λ route. route.place ≡ place) }
+    ensures standby { IfOk result (λ route. route.is_standby ≡ is_standby) }
     ensures address { IfOk result (λ route. string_bytes route.address ≡ before_first is_equals word.now) }
     ensures prefixes { IfOk result (λ route. All IsPrefix route.prefixes.items) }
 {
@@ -81,6 +89,7 @@ pub fn read_route(alloc: Global, place: usize, word: &str) -> Result<Route, Rout
     };
     Ok(Route {
         place,
+        is_standby,
         address: String::from_str(alloc, address)?,
         prefixes,
     })

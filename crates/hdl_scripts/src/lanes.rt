@@ -1,7 +1,7 @@
 //! Texts that go through lanes, on one thread, and what each tells:
 //!
 //! ```text
-//! NAME.script   events, each through a lane of one item and `serve`; as `replay` tells them, and as NAME.expected has it ([`hand`])
+//! NAME.script   events, each through a lane of one item and `serve`, and whether they tell what NAME.expected has ([`hand`])
 //! NAME.lanes    lanes that are filled, served and emptied line by line ([`hand`])
 //! NAME.writes   the same over a table with a file beside it, each of whose writes is made behind a line of its own ([`filed`])
 //! NAME.doors    workers at doors in memory, whose lanes are served at each of their pauses, and both rings settled ([`doors`])
@@ -20,44 +20,64 @@ mod rings;
 mod server;
 mod words;
 
+use crate::opening::{Opening, Refusing};
+use crate::table::Table;
 use filed::Filed;
-use server::Held;
+use server::without_service;
 use std::alloc::Global;
 use std::fs;
 use std::io::{self, Write};
 
-/// A service that isn't opened yet.
-fn without_service(alloc: Global) -> Held {
-    Held {
-        alloc,
-        service: None,
-    }
+/// Tells what a script tells.
+fn tell_script<O: Opening + Drop>(
+    rt: &HostRuntime,
+    stem: &str,
+    opening: O,
+    text: &str,
+    told: &mut Vec<u8>,
+) -> io::Result<()> {
+    let expected = fs::read(rt, format!(in rt.alloc(); "{stem}.expected")?)?;
+    let serving = without_service(rt.alloc(), opening);
+    hand::compare(rt.alloc(), serving, text, &expected, told)
 }
 
-/// Tells what a script tells.
-fn tell_script(rt: &HostRuntime, stem: &str, text: &str, told: &mut Vec<u8>) -> io::Result<()> {
-    let expected = fs::read(rt, format!(in rt.alloc(); "{stem}.expected")?)?;
-    hand::compare(
-        rt.alloc(),
-        &mut without_service(rt.alloc()),
-        text,
-        &expected,
-        told,
-    )
+/// Tells what a text of lanes tells.
+fn tell_lanes<O: Opening + Drop>(
+    alloc: Global,
+    opening: O,
+    text: &str,
+    told: &mut Vec<u8>,
+) -> io::Result<()> {
+    hand::run(alloc, without_service(alloc, opening), text, told)
+}
+
+/// Tells what a text of doors tells.
+fn tell_doors<O: Opening + Drop>(
+    alloc: Global,
+    opening: O,
+    text: &str,
+    told: &mut Vec<u8>,
+) -> io::Result<()> {
+    doors::run(alloc, without_service(alloc, opening), text, told)
 }
 
 /// Tells what a text tells.
 fn tell(rt: &HostRuntime, name: &str, told: &mut Vec<u8>) -> io::Result<()> {
     let alloc = rt.alloc();
     let text = fs::read_to_string(rt, name)?;
+    let memory = Refusing {
+        alloc,
+        table: Table::Memory,
+        nth: 0,
+    };
     if let Some(stem) = name.strip_suffix(".script") {
-        tell_script(rt, stem, text.as_str(), told)
+        tell_script(rt, stem, memory, text.as_str(), told)
     } else if name.ends_with(".lanes") {
-        hand::run(alloc, &mut without_service(alloc), text.as_str(), told)
+        tell_lanes(alloc, memory, text.as_str(), told)
     } else if name.ends_with(".writes") {
-        hand::run(alloc, &mut Filed::new(alloc)?, text.as_str(), told)
+        tell_lanes(alloc, Filed::new(alloc)?, text.as_str(), told)
     } else {
-        doors::run(alloc, without_service(alloc), text.as_str(), told)
+        tell_doors(alloc, memory, text.as_str(), told)
     }
 }
 

@@ -2,10 +2,10 @@
 
 ghost use Rattle.std.specs.Prelude.{◌≡◌, IfSome, false};
 ghost use Rattle.hdl_laws.specs.Runs.{is_busy};
-ghost use Rattle.hdl_rows.specs.Table.{no_rows};
 
+use crate::opening::{Opening, Refusing};
 use crate::row::{StoredScript, TRIES};
-use crate::table::{Table, empty_rows};
+use crate::table::Table;
 use hdl_core::{Early, Owing, Service, Tenants};
 use hdl_events::{Event, Outcome};
 use hdl_replay::{events_of, line_of, parts_of};
@@ -81,14 +81,16 @@ fn is_answered<R: Owing + Drop>(
     false
 }
 
-/// Opens a service of a tenants text over an empty table.
-fn open_service<R: Owing + Drop>(rt: &HostRuntime, tenants: &str, rows: R) -> Option<Service<R>>
-    requires empty { R.content rows ≡ no_rows }
-{
+/// Opens a service of a tenants text.
+fn open_service<O: Opening>(
+    rt: &HostRuntime,
+    opening: &O,
+    tenants: &str,
+) -> Option<Service<O::Rows>> {
     let Ok(tenants) = Tenants::read(rt.alloc(), tenants) else {
         return None;
     };
-    match Service::open(rt.alloc(), tenants, rows) {
+    match opening.open(tenants) {
         Ok(service) => Some(service),
         Err(fault) => {
             let _ = eprintln!(rt; "{fault}");
@@ -120,24 +122,19 @@ fn play_events<R: Owing + Drop>(
     }
 }
 
-/// Plays a row over an empty table.
-fn play_over<R: Owing + Drop>(rt: &HostRuntime, row: &StoredScript, rows: R) -> PlayResult
-    requires empty { R.content rows ≡ no_rows }
-{
+/// Plays a row over the service that is opened for it.
+fn play_once<O: Opening>(rt: &HostRuntime, row: &StoredScript, opening: &O) -> PlayResult {
     let parts = parts_of(&row.script);
-    match open_service(rt, parts.tenants, rows) {
+    match open_service(rt, opening, parts.tenants) {
         Some(mut service) => play_events(rt, &mut service, parts.script, &row.expected),
         None => PlayResult::Unopened,
     }
 }
 
-/// Plays a row over an empty table whose nth call is refused, none with 0. What can't be opened is tried once more.
-pub(crate) fn play(rt: &HostRuntime, row: &StoredScript, table: Table, nth: u64) -> PlayResult {
+/// Plays a row. What can't be opened is tried once more.
+pub(crate) fn play<O: Opening>(rt: &HostRuntime, row: &StoredScript, opening: &O) -> PlayResult {
     for _ in 0..TRIES {
-        let ending = match empty_rows(rt.alloc(), table, nth) {
-            Some(rows) => play_over(rt, row, rows),
-            None => PlayResult::Unopened,
-        };
+        let ending = play_once(rt, row, opening);
         if !matches!(ending, PlayResult::Unopened) {
             return ending;
         }
@@ -148,7 +145,12 @@ pub(crate) fn play(rt: &HostRuntime, row: &StoredScript, table: Table, nth: u64)
 /// Plays a row with each call of the table refused in turn that follows the opening, until a whole row meets none.
 pub(crate) fn each_call(rt: &HostRuntime, row: &StoredScript, table: Table) -> PlayResult {
     for nth in 1..=MOST_CALLS {
-        match play(rt, row, table, nth) {
+        let opening = Refusing {
+            alloc: rt.alloc(),
+            table,
+            nth,
+        };
+        match play(rt, row, &opening) {
             // a call of the opening, or one behind it
             PlayResult::Unopened | PlayResult::Right { refusals: 1 } => {}
             ending => return ending,

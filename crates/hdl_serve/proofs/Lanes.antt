@@ -10,21 +10,26 @@ use Rattle.hdl_events.specs.declared.Event.{Event}
 use Rattle.hdl_events.specs.declared.Outcome.{Outcome}
 use Rattle.hdl_laws.specs.Worlds.{World}
 use Rattle.hdl_laws.specs.Steps.{Turn}
-use Rattle.hdl_laws.specs.Runs.{Run}
-use Rattle.hdl_laws.specs.Laws.{JoinsRuns, HostsNoRoot, RestrictsRuns, TwinsReplyAlike}
+use Rattle.hdl_laws.specs.Runs.{events, outcomes}
+use Rattle.hdl_laws.specs.Laws.{HostsNoRoot, RestrictsRuns, TwinsReplyAlike}
+use Rattle.hdl_together.specs.Shared.{turns_in}
 use Rattle.hdl_workers.specs.declared.item.Item.{Item}
 use Rattle.hdl_workers.specs.declared.ends.LaneEnds.{LaneEnds}
 use Rattle.hdl_workers.specs.Sign.{WithEnd}
 use Rattle.hdl_workers.specs.Ends.{AreDistinct}
 use Rattle.hdl_serve.specs.Served.{events_on, outcomes_on, items_of, IsOnOne, LaneServed, IsServed}
-use Rattle.hdl_serve.specs.Rounds.{AreWithEnd, GaveEnd, Passes, Serves, EachLane, IsServing, on_lane}
+use Rattle.hdl_serve.specs.declared.news.StampedChange.{StampedChange}
+use Rattle.hdl_serve.specs.declared.serving.SharedEnd.{SharedEnd}
+use Rattle.hdl_serve.specs.Shared.{TakeOver, IsShared}
+use Rattle.hdl_serve.specs.Rounds.{AreWithEnd, GaveEnd, Passes, Serves, EachLane, RunBeside, IsServing, on_lane}
 use Rattle.hdl_serve.proofs.Beside.{own_events, own_outcomes, foreign_events, foreign_outcomes}
+use Rattle.hdl_serve.proofs.Sharing.{beside_none, beside_run, beside_then, alone}
 use Rattle.hdl_serve.proofs.Steps.{passes_then, passes_nothing}
 
--- a run has one outcome for each event
-length_run : (w new : World) (es : List Event) (os : List Outcome) → Run w es os new → length es ≡ length os
-length_run w new es os run =
-    sym (ap length run.2) ∙ length-map run.0 (λ (t : Turn). t.event) ∙ sym (length-map run.0 (λ (t : Turn). t.outcome)) ∙ ap length run.3
+-- turns have one outcome for each event
+length_beside : (w new : World) (cs : List StampedChange) (es : List Event) (os : List Outcome) → RunBeside w cs es os new → length es ≡ length os
+length_beside w new cs es os run =
+    sym (ap length run.3) ∙ length-map (turns_in run.0) (λ (t : Turn). t.event) ∙ sym (length-map (turns_in run.0) (λ (t : Turn). t.outcome)) ∙ ap length run.4
 
 -- ---- each event is of a lane
 
@@ -49,26 +54,27 @@ two_numbers lanes n i d distinct other here there same = elim (cases_order n i) 
 
 -- ---- steps of serving
 
-pub serving_first : (w : World) (lanes : List LaneEnds) (ended : List Bool) → AreDistinct lanes → ended ≡ [] → IsServing w lanes w lanes ended
+pub serving_first : (w : World) (lanes : List LaneEnds) (ended : List Bool) → AreDistinct lanes → ended ≡ [] → IsServing w lanes [] w lanes ended
 serving_first w lanes ended distinct going =
-    subst (λ flags. IsServing w lanes w lanes flags) (sym going) (record {
+    subst (λ flags. IsServing w lanes [] w lanes flags) (sym going) (record {
       distinct = distinct;
       events = [];
       outcomes = [];
-      run = ([], tt, refl, refl, refl);
+      run = beside_none w;
       given = All-nil (IsOnOne lanes);
       lanes = record { long = refl; each = λ n d below. passes_nothing false (get_or lanes n d) };
     })
 
 -- one lane was served
-pub serving_on : JoinsRuns → (w mid new : World) (before lanes : List LaneEnds) (now : List Bool) (i : ℕ) (e f : Bool) (d b : LaneEnds) → i < length lanes → i < length now
-    → Serves (get_or now i e) f mid new (get_or lanes i d) b → IsServing w before mid lanes now → IsServing w before new (set lanes i b) (set now i f)
-serving_on joins w mid new before lanes now i e f d b there flagged s h =
+pub serving_on : (w mid new : World) (before : List LaneEnds) (cs : List StampedChange) (lanes : List LaneEnds) (now : List Bool) (i : ℕ) (e f : Bool) (d b : LaneEnds) → i < length lanes → i < length now
+    → Serves (get_or now i e) f mid new (get_or lanes i d) b → IsServing w before cs mid lanes now → IsServing w before cs new (set lanes i b) (set now i f)
+serving_on w mid new before cs lanes now i e f d b there flagged s h =
     let n : ℕ = (get_or lanes i d).lane in
     let more : List Event = on_lane n s.whats in
     let here : i < length before = subst (λ m. i < m) h.lanes.long there in
-    let long : length h.events ≡ length h.outcomes = length_run w mid h.events h.outcomes h.run in
-    let few : length s.whats ≡ length s.outcomes = sym (length-map s.whats (λ (what : What). record { lane = n; what = what })) ∙ length_run mid new more s.outcomes s.run in
+    let long : length h.events ≡ length h.outcomes = length_beside w mid cs h.events h.outcomes h.run in
+    let served : RunBeside mid [] more s.outcomes new = beside_run mid new more s.outcomes s.run in
+    let few : length s.whats ≡ length s.outcomes = sym (length-map s.whats (λ (what : What). record { lane = n; what = what })) ∙ length_beside mid new [] more s.outcomes served in
     let number : (x : LaneEnds) → (get_or before i x).lane ≡ n
     = λ x. sym (h.lanes.each i x here).lane ∙ ap (λ (z : LaneEnds). z.lane) (get_or_default lanes i x d there) in
     let R : ℕ → LaneEnds → LaneEnds → Type 0 = λ k a c. Passes false (get_or (set now i f) k false) (events_on a.lane (h.events ++ more)) (outcomes_on a.lane (h.events ++ more) (h.outcomes ++ s.outcomes)) a c in
@@ -93,7 +99,7 @@ serving_on joins w mid new before lanes now i e f d b there flagged s h =
       distinct = h.distinct;
       events = h.events ++ more;
       outcomes = h.outcomes ++ s.outcomes;
-      run = joins w mid new h.events more h.outcomes s.outcomes h.run s.run;
+      run = subst (λ xs. RunBeside w xs (h.events ++ more) (h.outcomes ++ s.outcomes) new) (append-nil cs) (beside_then w mid new cs [] h.events more h.outcomes s.outcomes h.run served);
       given = All-append (IsOnOne before) h.events more h.given (all_on_one before i n s.whats here number);
       lanes = record {
         long = length-set lanes i b ∙ h.lanes.long;
@@ -104,9 +110,22 @@ serving_on joins w mid new before lanes now i e f d b there flagged s h =
       };
     }
 
+-- changes of others were let in
+pub serving_beside : (w mid new : World) (before lanes : List LaneEnds) (cs ds : List StampedChange) (now : List Bool) → IsServing w before cs mid lanes now → RunBeside mid ds [] [] new → IsServing w before (cs ++ ds) new lanes now
+serving_beside w mid new before lanes cs ds now h run = record {
+  distinct = h.distinct;
+  events = h.events;
+  outcomes = h.outcomes;
+  run = subst (λ es. RunBeside w (cs ++ ds) es h.outcomes new) (append-nil h.events)
+      (subst (λ os. RunBeside w (cs ++ ds) (h.events ++ []) os new) (append-nil h.outcomes) (beside_then w mid new cs ds h.events [] h.outcomes [] h.run run));
+  given = h.given;
+  lanes = h.lanes;
+}
+
 -- flags that say the same of each lane
-pub same_flags : (w new : World) (before after : List LaneEnds) (was now : List Bool) → ((n : ℕ) → n < length after → get_or now n false ≡ get_or was n false) → IsServing w before new after was → IsServing w before new after now
-same_flags w new before after was now same h = record {
+pub same_flags : (w new : World) (before after : List LaneEnds) (cs : List StampedChange) (was now : List Bool) → ((n : ℕ) → n < length after → get_or now n false ≡ get_or was n false) → IsServing w before cs new after was
+    → IsServing w before cs new after now
+same_flags w new before after cs was now same h = record {
   distinct = h.distinct;
   events = h.events;
   outcomes = h.outcomes;
@@ -162,17 +181,39 @@ zip_each R (x ∷ xs) [] long each = absurd (omega (arith, long))
 zip_each R (x ∷ xs) (y ∷ ys) long each = (each 0 x (omega arith), zip_each R xs ys (omega (arith, long)) (λ n d below. each (suc n) d (omega (arith, below))))
 
 -- serving ends
-pub served : RestrictsRuns → TwinsReplyAlike → (w new : World) (before after : List LaneEnds) (ended : List Bool) → HostsNoRoot w.site → IsServing w before new after ended → IsServed w before new after
-served restricts twins w new before after ended no_root h = record {
-  events = h.events;
-  outcomes = h.outcomes;
-  run = h.run;
-  isolated = λ ts run is os. restricts w ts no_root run;
-  hidden = λ ts run is os. twins w ts run;
-  lanes = zip_each (LaneServed h.events h.outcomes) before after h.lanes.long
-      (λ n d below. lane_served h.events h.outcomes (get_or ended n false) (get_or before n d) (get_or after n d) (h.lanes.each n d below));
-  of = h.given;
+pub shared : (w new : World) (before after : List LaneEnds) (cs known later : List StampedChange) (ended : List Bool) → later ≡ known ++ cs → IsServing w before cs new after ended → IsShared w before known new after later
+shared w new before after cs known later ended news h = record {
+  parts = h.run.0;
+  are = h.run.1;
+  last = h.run.5;
+  changes = cs;
+  taken_over = h.run.2;
+  news = news;
+  lanes = subst (λ es. AllZip (LaneServed es (outcomes (turns_in h.run.0))) before after) (sym h.run.3)
+      (subst (λ os. AllZip (LaneServed h.events os) before after) (sym h.run.4)
+      (zip_each (LaneServed h.events h.outcomes) before after h.lanes.long
+      (λ n d below. lane_served h.events h.outcomes (get_or ended n false) (get_or before n d) (get_or after n d) (h.lanes.each n d below))));
+  of = subst (All (IsOnOne before)) (sym h.run.3) h.given;
 }
+
+-- without other servers
+pub served : RestrictsRuns → TwinsReplyAlike → (w new : World) (before after : List LaneEnds) → HostsNoRoot w.site → IsShared w before [] new after [] → IsServed w before new after
+served restricts twins w new before after no_root s =
+    let run = alone w s.parts s.are (subst (TakeOver w s.parts) (sym s.news) s.taken_over) in
+    record {
+      events = events (turns_in s.parts);
+      outcomes = outcomes (turns_in s.parts);
+      run = (turns_in s.parts, run.0, refl, refl, run.1 ∙ s.last);
+      isolated = λ ts run is os. restricts w ts no_root run;
+      hidden = λ ts run is os. twins w ts run;
+      lanes = s.lanes;
+      of = s.of;
+    }
+
+-- serving that hasn't parted is over
+pub not_parted : (end : SharedEnd) (P : Type 0) → (end ≡ SharedEnd.Over → P) → (end ≡ SharedEnd.Parted → ⊥) → P
+not_parted SharedEnd.Over P over parted = over refl
+not_parted SharedEnd.Parted P over parted = absurd (parted refl)
 
 -- what is denied isn't so
 pub turned : (b v : Bool) → v ≡ not b → v ≡ false → b ≡ true
@@ -186,8 +227,8 @@ flag_true (f ∷ flags) zero all below = all.0
 flag_true (f ∷ flags) (suc n) all below = flag_true flags n all.1 (omega (arith, below))
 
 -- each lane gave End
-pub gave_end : (w new : World) (before after : List LaneEnds) (ended : List Bool) → IsServing w before new after ended → length ended ≡ length after → AllByRecursion (λ e. e ≡ true) ended → AllZip GaveEnd before after
-gave_end w new before after ended h long all =
+pub gave_end : (w new : World) (before after : List LaneEnds) (cs : List StampedChange) (ended : List Bool) → IsServing w before cs new after ended → length ended ≡ length after → AllByRecursion (λ e. e ≡ true) ended → AllZip GaveEnd before after
+gave_end w new before after cs ended h long all =
     zip_each GaveEnd before after h.lanes.long (λ n d below.
     let a : LaneEnds = get_or before n d in
     let b : LaneEnds = get_or after n d in
@@ -196,7 +237,7 @@ gave_end w new before after ended h long all =
     (whats, subst (λ f. AreWithEnd f (taken_from a.items ++ items_of whats) (taken_from b.items)) flag ((h.lanes.each n d below).with_end (taken_from a.items) refl)))
 
 -- the lanes that come back still have numbers of their own
-pub still_distinct : (w new : World) (before after : List LaneEnds) (ended : List Bool) → IsServing w before new after ended → AreDistinct after
-still_distinct w new before after ended h = λ i j d below here same.
+pub still_distinct : (w new : World) (before after : List LaneEnds) (cs : List StampedChange) (ended : List Bool) → IsServing w before cs new after ended → AreDistinct after
+still_distinct w new before after cs ended h = λ i j d below here same.
     let there : j < length before = subst (λ m. j < m) h.lanes.long here in
     h.distinct i j d below there (sym (h.lanes.each i d (omega (arith, below, there))).lane ∙ same ∙ (h.lanes.each j d there).lane)

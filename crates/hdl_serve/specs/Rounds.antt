@@ -7,11 +7,15 @@ use Rattle.hdl_events.specs.declared.What.{What}
 use Rattle.hdl_events.specs.declared.Event.{Event}
 use Rattle.hdl_events.specs.declared.Outcome.{Outcome}
 use Rattle.hdl_laws.specs.Worlds.{World}
+use Rattle.hdl_laws.specs.Runs as runs
 use Rattle.hdl_laws.specs.Runs.{Run, is_busy}
+use Rattle.hdl_together.specs.Shared.{Part, AreParts, after_parts, turns_in}
 use Rattle.hdl_workers.specs.declared.item.Item.{Item}
 use Rattle.hdl_workers.specs.declared.ends.LaneEnds.{LaneEnds}
 use Rattle.hdl_workers.specs.Ends.{AreDistinct}
 use Rattle.hdl_serve.specs.declared.rounds.Front.{Front}
+use Rattle.hdl_serve.specs.declared.news.StampedChange.{StampedChange}
+use Rattle.hdl_serve.specs.Shared.{TakeOver}
 use Rattle.hdl_serve.specs.Served.{events_in, items_of, events_on, outcomes_on, IsOnOne}
 
 -- the items are these, and End behind them where the lane has ended
@@ -66,11 +70,15 @@ pub record EachLane (R : ℕ → LaneEnds → LaneEnds → Type 0) (before after
   pub long : length after ≡ length before
   pub each : (place : ℕ) (d : LaneEnds) → place < length before → R place (get_or before place d) (get_or after place d)
 
--- serving has come from one world to the other; which lanes have ended
-pub record IsServing (w : World) (before : List LaneEnds) (new : World) (after : List LaneEnds) (ended : List Bool) : Type 0 where
+-- turns with these events and outcomes, and between them these changes of others, lead from one world to the other
+abbrev pub RunBeside : World → List StampedChange → List Event → List Outcome → World → Type 0
+RunBeside w changes es os new = (parts : List Part) × AreParts w parts × TakeOver w parts changes × (runs.events (turns_in parts) ≡ es) × (runs.outcomes (turns_in parts) ≡ os) × (after_parts w parts ≡ new)
+
+-- serving has come from one world to the other, beside these changes; which lanes have ended
+pub record IsServing (w : World) (before : List LaneEnds) (changes : List StampedChange) (new : World) (after : List LaneEnds) (ended : List Bool) : Type 0 where
   pub distinct : AreDistinct before
   pub events : List Event
   pub outcomes : List Outcome
-  pub run : Run w events outcomes new
+  pub run : RunBeside w changes events outcomes new
   pub given : All (IsOnOne before) events
   pub lanes : EachLane (λ place a b. Passes false (get_or ended place false) (events_on a.lane events) (outcomes_on a.lane events outcomes) a b) before after

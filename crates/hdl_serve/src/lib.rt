@@ -1,16 +1,19 @@
 //! The serving loop between lanes and the service.
 //!
 //! ```text
-//! a worker -> ring of items -> serve -> Service::step
+//! a worker -> ring of items -> serve -> Machine::step
 //!          <- ring of outcomes <-
 //! ```
 //!
-//! [`serve`] goes round the publishers, and round the lanes of each: of a lane it takes an event, serves it by `Service::step`, and puts the outcome back before it takes the next,
+//! [`serve`] goes round the publishers, and round the lanes of each: of a lane it takes an event, serves it by `Machine::step`, and puts the outcome back before it takes the next,
 //! up to 16 in a row. A publisher's turn ends once a millisecond has passed. An event of a write that is under way stays in its lane meanwhile. What stands between a lane and a socket is `hdl_workers`, which knows no service; its names are passed on here.
 //!
 //! Promised of `serve`: what the lanes gave, and nothing else, is a run of the service, in which publishers are isolated and no reply
 //! tells of a value that may not be read, and each lane was given its events' outcomes. [`laws`] joins this with what the workers promise: after the joins
 //! what was put is what was served and what is left.
+//!
+//! [`serve_shared`] does the same beside other servers that have the same table: before each round it lets in the changes that [`News`] gives. What it did is one list of
+//! turns and of tables that it took over. If all servers' changes are one list, [`laws::servers_serve_as_one`] makes one service of what they all did, isolated and hidden.
 //!
 //! Nothing here takes a lock or waits for anyone: what finds nothing pauses by the caller's [`Clock`], and all is bounded by a
 //! number of turns.
@@ -39,6 +42,11 @@
 //!   most as its publisher has lanes. Lanes are a publisher's where they stand next to each other and the machine says so (`Machine::owner`).
 //! - **The lane whose turn it is to write is asked before all others**, for one event, since all other writes wait for it. Where it gives that, the round is over; its next
 //!   write goes after those that wait, so between two such rounds others have theirs.
+//! - **`serve` is `serve_shared` without news**, so there is one loop. Its rounds share the publishers' shares and who has ended: parts of a loop that begin anew would forget at which
+//!   lane a publisher's turn ended.
+//! - **A change of others is let in while the table owes no other write**: what the table owes was decided on the table as it is. If the table owes the write of this very change,
+//!   the call is made again, which claims it. A change is taken from the news only once it is in the table.
+//! - **At most 64 changes are let in before lanes are asked again**, and no pause follows a round before which any was.
 //! - **Serving ends one round after the last End**, so that a turn that served nothing is one with a pause, whatever round an End came in.
 //! - **`serve` has two clauses: one record (`served`) and that the lanes' numbers still differ (`distinct`)**, so that it can be called again.
 //!   One record and not a clause for each sentence, since four clauses would each speak of a list of events of its own.
@@ -47,11 +55,13 @@
 #![tactic(auto)]
 
 pub mod laws;
+mod letting;
+mod news;
 mod rounds;
 mod serving;
 mod shares;
 
-pub use hdl_core::{Owing, Service};
+pub use hdl_core::{Change, Owing, Service};
 pub use hdl_events::{Outcome, What};
 pub use hdl_lanes::{Ended, Full, Outlet};
 pub use hdl_limits::Octets;
@@ -61,4 +71,5 @@ pub use hdl_workers::{
     MemoryDoor, MemoryNonces, MemoryPackets, Nonces, Packets, WorkerEnd, WorkerSide, lanes_of,
     packet_worker, stream_worker,
 };
-pub use serving::{Served, serve};
+pub use news::{News, StampedChange};
+pub use serving::{Served, Shared, SharedEnd, serve, serve_shared};

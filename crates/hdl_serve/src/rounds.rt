@@ -8,6 +8,7 @@ ghost use Rattle.hdl_workers.specs.declared.item.Item.{Item};
 ghost use Rattle.hdl_workers.specs.declared.ends.LaneEnds.{LaneEnds};
 ghost use Rattle.hdl_queue.specs.Waiting.{without_lane};
 ghost use Rattle.hdl_rows.specs.Debt.{is_owed};
+ghost use Rattle.hdl_serve.specs.declared.news.StampedChange.{StampedChange};
 ghost use Rattle.hdl_serve.specs.Rounds.{Answers, IsCopyOf, IsServing, Passes, PutsNoBusy, Serves};
 
 use crate::shares::{Rota, Share};
@@ -124,7 +125,7 @@ fn is_busy(outcome: &Outcome) -> bool
     matches!(outcome, Outcome::Busy(_))
 }
 
-fn is_owed(owed: Owed) -> bool
+pub(crate) fn is_owed(owed: Owed) -> bool
     ensures { result ≡ is_owed owed }
 {
     !matches!(owed, Owed::Nothing)
@@ -266,9 +267,8 @@ fn serve_share<R: Owing + Drop, C: Clock>(
 ) -> u64
     requires ended { length ended.old ≡ length lanes.old }
     ensures few { result ≤ share.old.most }
-    ensures serving { (w : World) (before : List LaneEnds) → IsServing w before machine.old.world lanes.old ended.old → IsServing w before machine.new.world lanes.new ended.new }
+    ensures serving { (w : World) (before : List LaneEnds) (changes : List StampedChange) → IsServing w before changes machine.old.world lanes.old ended.old → IsServing w before changes machine.new.world lanes.new ended.new }
 {
-    runs_joined();
     let begun = share.next;
     let mut longest = 0;
     for _ in 0..lanes.len() {
@@ -304,7 +304,7 @@ fn serve_shares<R: Owing + Drop, C: Clock>(
 ) -> u64
     requires ended { length ended.old ≡ length lanes.old }
     ensures few { result ≤ rota.old.most }
-    ensures serving { (w : World) (before : List LaneEnds) → IsServing w before machine.old.world lanes.old ended.old → IsServing w before machine.new.world lanes.new ended.new }
+    ensures serving { (w : World) (before : List LaneEnds) (changes : List StampedChange) → IsServing w before changes machine.old.world lanes.old ended.old → IsServing w before changes machine.new.world lanes.new ended.new }
 {
     let most = rota.most;
     let mut longest = 0;
@@ -328,9 +328,8 @@ fn serve_writer<R: Owing + Drop>(
     queue: &mut WriteQueue,
 ) -> bool
     requires ended { length ended.old ≡ length lanes.old }
-    ensures { (w : World) (before : List LaneEnds) → IsServing w before machine.old.world lanes.old ended.old → IsServing w before machine.new.world lanes.new ended.new }
+    ensures { (w : World) (before : List LaneEnds) (changes : List StampedChange) → IsServing w before changes machine.old.world lanes.old ended.old → IsServing w before changes machine.new.world lanes.new ended.new }
 {
-    runs_joined();
     let Some(writer) = queue.turn() else {
         return false;
     };
@@ -352,7 +351,7 @@ pub(crate) fn serve_round<R: Owing + Drop, C: Clock>(
     requires ended { length ended.old ≡ length lanes.old }
     requires some { 0 < rota.old.most }
     ensures few { result ≤ rota.old.most }
-    ensures serving { (w : World) (before : List LaneEnds) → IsServing w before machine.old.world lanes.old ended.old → IsServing w before machine.new.world lanes.new ended.new }
+    ensures serving { (w : World) (before : List LaneEnds) (changes : List StampedChange) → IsServing w before changes machine.old.world lanes.old ended.old → IsServing w before changes machine.new.world lanes.new ended.new }
 {
     if serve_writer(rota.alloc, machine, lanes, ended, queue) {
         return 1;

@@ -4,10 +4,14 @@ ghost use Rattle.std.specs.Prelude.{◌≡◌, ◌≤◌, ◌<◌, ◌⊎◌, []
 ghost use Rattle.std.specs.List.{AllByRecursion, AllZip};
 ghost use Rattle.hdl_laws.specs.Worlds.{World};
 ghost use Rattle.hdl_workers.specs.declared.ends.LaneEnds.{LaneEnds};
+ghost use Rattle.hdl_serve.specs.declared.news.StampedChange.{StampedChange};
 ghost use Rattle.hdl_serve.specs.Rounds.{GaveEnd, IsServing};
 ghost use Rattle.hdl_serve.specs.Served.{IsServed};
+ghost use Rattle.hdl_serve.specs.Shared.{IsShared, IsUnfit};
 ghost use Rattle.hdl_workers.specs.Ends.{AreDistinct};
 
+use crate::letting::let_in_news;
+use crate::news::{News, NoNews};
 use crate::rounds::serve_round;
 use crate::shares::Rota;
 use hdl_core::{Machine, Owing, Rows, Service};
@@ -29,6 +33,52 @@ pub struct Served<R: Rows + Drop> {
     pub turns: u64,
 }
 
+/// Why serving beside other servers ended.
+#[derive(Clone, Copy, Debug, PartialEq, Eq, Drop)]
+pub enum SharedEnd {
+    /// The turns are spent, or each lane has given End.
+    Over,
+    /// The table can't have the next change of the others.
+    Parted,
+}
+
+/// What serving beside other servers gives back.
+#[derive(Drop)]
+pub struct Shared<R: Rows + Drop> {
+    pub served: Served<R>,
+    pub end: SharedEnd,
+}
+
+/// Tells the clock that a round did something, or pauses.
+fn end_round<C: Clock>(clock: &mut C, has_worked: bool) {
+    if has_worked {
+        clock.note_work();
+    } else {
+        clock.pause();
+    }
+}
+
+fn end_with<R: Rows + Drop>(
+    machine: Machine<R>,
+    lanes: Vec<LaneEnds>,
+    turns: u64,
+    end: SharedEnd,
+) -> Shared<R>
+    ensures world { result.served.service.world ≡ machine.world }
+    ensures lanes { result.served.lanes.items ≡ lanes.items }
+    ensures turns { result.served.turns ≡ turns }
+    ensures end { result.end ≡ end }
+{
+    Shared {
+        served: Served {
+            service: machine.into_service(),
+            lanes,
+            turns,
+        },
+        end,
+    }
+}
+
 /// Whether each of the first `lanes` lanes has given End.
 fn have_ended(ended: &[bool], lanes: usize) -> bool
     ensures { IsTrue result → (length ended.now ≡ lanes) × AllByRecursion (λ e. e ≡ true) ended.now }
@@ -47,7 +97,7 @@ fn round<R: Owing + Drop, C: Clock>(
 ) -> u64
     requires some { 0 < rota.old.most }
     ensures few { result ≤ rota.old.most }
-    ensures serving { (w : World) (before : List LaneEnds) → IsServing w before machine.old.world lanes.old ended.old.items → IsServing w before machine.new.world lanes.new ended.new.items }
+    ensures serving { (w : World) (before : List LaneEnds) (changes : List StampedChange) → IsServing w before changes machine.old.world lanes.old ended.old.items → IsServing w before changes machine.new.world lanes.new ended.new.items }
 {
     if rota.share_out(machine, lanes).is_err() {
         return 0;
@@ -88,13 +138,51 @@ pub fn serve<R: Owing + Drop, C: Clock>(
     service.root_is_unhosted();
     restricted();
     twin_replies();
+    let served = Served {
+        service,
+        lanes,
+        turns,
+    };
+    let mut news = NoNews;
+    serve_shared(alloc, served, clock, queue, &mut news).served
+}
+
+/// Goes round the lanes as [`serve`] does. Before each round it lets in the changes that the news gives, each once and in order. It waits while the table owes another write.
+/// A change that is refused, or whose write is owed, is let in later. The caller's clock should end a pause if a change comes.
+///
+/// There is one list of turns and of tables that were taken over. It leads from the service handed in to the one given back. Each of these tables is the one before it with the next
+/// change of the news, which that table could have. The lanes gave the events of the turns and were given their outcomes, as `serve` says it.
+///
+/// If the table can't have the next change, this server has parted from the others. Then nothing more is served, and the change stays with the news.
+pub fn serve_shared<R: Owing + Drop, C: Clock, N: News>(
+    alloc: Global,
+    served: Served<R>,
+    clock: &mut C,
+    queue: &mut WriteQueue,
+    news: &mut N,
+) -> Shared<R>
+    requires { AreDistinct served.lanes.items }
+    ensures shared { IsShared served.service.world served.lanes.items (N.taken news.old) result.served.service.world result.served.lanes.items (N.taken news.new) }
+    ensures over { result.end ≡ SharedEnd.Over → (result.served.turns ≡ 0) ⊎ AllZip GaveEnd served.lanes.items result.served.lanes.items }
+    ensures parted { result.end ≡ SharedEnd.Parted → IsUnfit (N.seen news.new) result.served.service.world.table }
+    ensures distinct { AreDistinct result.served.lanes.items }
+{
+    let Served {
+        service,
+        lanes,
+        turns,
+    } = served;
     let mut machine = service.into_machine();
     let mut lanes = lanes;
     let mut turns = turns;
     let mut ended = Vec::new(alloc);
     let mut rota = Rota::new(alloc);
-    let mut has_served = false;
-    while turns > 0 && (has_served || !have_ended(ended.as_slice(), lanes.len())) {
+    let mut is_handed_over = false;
+    let mut has_worked = false;
+    while turns > 0 && (has_worked || !have_ended(ended.as_slice(), lanes.len())) {
+        let Ok(has_news) = let_in_news(&mut machine, news, &mut is_handed_over) else {
+            return end_with(machine, lanes, turns, SharedEnd::Parted);
+        };
         rota.most = turns.min(IN_A_ROW);
         let served = round(
             &mut machine,
@@ -104,18 +192,9 @@ pub fn serve<R: Owing + Drop, C: Clock>(
             clock,
             &mut rota,
         );
-        has_served = served > 0;
-        if has_served {
-            clock.note_work();
-            turns -= served;
-        } else {
-            clock.pause();
-            turns -= 1;
-        }
+        has_worked = has_news || served > 0;
+        end_round(clock, has_worked);
+        turns -= served.max(1);
     }
-    Served {
-        service: machine.into_service(),
-        lanes,
-        turns,
-    }
+    end_with(machine, lanes, turns, SharedEnd::Over)
 }

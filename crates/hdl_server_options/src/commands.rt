@@ -75,7 +75,19 @@ fn serve_command<'a>(alloc: Global) -> Result<Command<'a>, AllocError> {
             "Opens each publisher's port at this IPv4 or IPv6 address; may be repeated; 127.0.0.1 by default",
         ))?;
     let command = bound_args(alloc, limit_args(alloc, command)?)?;
-    table_args(alloc, supervision_args(alloc, command)?)
+    let command = table_args(alloc, supervision_args(alloc, command)?)?;
+    command.arg(read_only_arg(alloc)?)
+}
+
+/// The option by which no changes are taken.
+fn read_only_arg<'a>(alloc: Global) -> Result<Arg<'a>, AllocError> {
+    Arg::new(alloc, "read-only")
+        .long("read-only")
+        .help(
+            "Takes no changes: each is answered 5, operation denied; for a standby over a copy of another server's file",
+        )
+        .action(ArgAction::SetTrue)
+        .requires_arg("table")
 }
 
 /// The options of `serve` by which turns, waiting and crowds have a limit.
@@ -150,13 +162,13 @@ fn supervision_args<'a>(alloc: Global, command: Command<'a>) -> Result<Command<'
             alloc,
             "status",
             "ADDRESS:PORT",
-            "Answers GET /health and /metrics over HTTP at this address",
+            "Answers /health and /metrics over HTTP at this address",
         ))?
         .arg(option(
             alloc,
             "control",
             "PATH",
-            "The Unix socket at which `handled stop` ends the server",
+            "The Unix socket at which `handled stop` ends the server, and `handled reopen` opens its log anew",
         ))?
         .arg(option(
             alloc,
@@ -194,16 +206,29 @@ fn restore_command<'a>(alloc: Global) -> Result<Command<'a>, AllocError> {
         .required(true))
 }
 
+/// The option that names a running server.
+fn control_arg<'a>(alloc: Global) -> Arg<'a> {
+    option(
+        alloc,
+        "control",
+        "PATH",
+        "The Unix socket that the server's --control names",
+    )
+    .required(true)
+}
+
 fn stop_command<'a>(alloc: Global) -> Result<Command<'a>, AllocError> {
     Command::new(alloc, "stop")
         .about("Ends a server in order, and waits until it has ended")
-        .arg(option(
-            alloc,
-            "control",
-            "PATH",
-            "The Unix socket that the server's --control names",
+        .arg(control_arg(alloc))
+}
+
+fn reopen_command<'a>(alloc: Global) -> Result<Command<'a>, AllocError> {
+    Command::new(alloc, "reopen")
+        .about(
+            "Has a server open the file of its log anew once it was renamed; it does so within two seconds",
         )
-        .required(true))
+        .arg(control_arg(alloc))
 }
 
 fn replay_command<'a>(alloc: Global) -> Result<Command<'a>, AllocError> {
@@ -276,5 +301,6 @@ pub fn command<'a>(alloc: Global) -> Result<Command<'a>, AllocError> {
     let whole = with_command(whole, copy_command(alloc))?;
     let whole = with_command(whole, restore_command(alloc))?;
     let whole = with_command(whole, stop_command(alloc))?;
+    let whole = with_command(whole, reopen_command(alloc))?;
     with_command(whole, check_command(alloc))
 }

@@ -57,6 +57,8 @@ pub struct ServeOptions {
     pub supervision: SupervisionOptions,
     /// The bounds, at most one per publisher.
     pub bounds: Vec<BoundWord>,
+    /// Whether changes are taken.
+    pub takes_changes: bool,
     /// How many octets the handles that were read last may take.
     pub row_cache: Option<usize>,
     /// The file of the table; None: the table is in memory alone.
@@ -96,6 +98,10 @@ pub enum Invocation {
     },
     /// The server that listens at this socket is asked to end.
     Stop {
+        control: String,
+    },
+    /// The server that listens at this socket is asked to open the file of its log anew.
+    Reopen {
         control: String,
     },
     /// The table in a file is written as a tenants text.

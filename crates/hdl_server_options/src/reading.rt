@@ -36,6 +36,12 @@ fn stop_options(alloc: Global, found: &ArgMatches) -> Result<Invocation, Unclear
     Ok(Invocation::Stop { control })
 }
 
+/// What is asked for by the words after `reopen`.
+fn reopen_options(alloc: Global, found: &ArgMatches) -> Result<Invocation, Unclear> {
+    let control = required(alloc, found, "control")?;
+    Ok(Invocation::Reopen { control })
+}
+
 /// What is asked for by the words after `export`.
 fn export_options(alloc: Global, found: &ArgMatches) -> Result<Invocation, Unclear> {
     let path = required(alloc, found, "table")?;
@@ -74,6 +80,9 @@ fn invocation_of(alloc: Global, matches: &ArgMatches) -> Result<Invocation, Uncl
     }
     if let Some(found) = matches.subcommand_matches("stop") {
         return stop_options(alloc, found);
+    }
+    if let Some(found) = matches.subcommand_matches("reopen") {
+        return reopen_options(alloc, found);
     }
     match matches.subcommand_matches("replay") {
         Some(found) => Ok(Invocation::Replay {

@@ -153,6 +153,7 @@ pub fn serve_options(alloc: Global, found: &ArgMatches) -> Result<ServeOptions, 
         limits: limits(found),
         supervision,
         bounds,
+        takes_changes: !found.get_flag("read-only"),
         row_cache: octets_behind(found, "row-cache"),
         table,
     })

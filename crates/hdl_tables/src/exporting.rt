@@ -5,7 +5,10 @@ use crate::fault::TabledFault;
 use crate::file::FileWork;
 use crate::pair::Note;
 use crate::reasons::PathReason;
-use hdl_export::{ExportFault, LeftOut, export, export_publisher, left_out, left_out_of};
+use hdl_export::{
+    ExportFault, LeftOut, LeftPrefix, export, export_publisher, left_out, left_out_of,
+    left_prefixes,
+};
 use hdl_programs::{Fault, INPUT_LIMIT, put_all};
 use hdl_rows::{Owing, Rows};
 use hdl_tenants::Tenants;
@@ -40,6 +43,16 @@ fn say_left_out(rt: &HostRuntime, left: LeftOut) -> u8 {
         "export: left out, since a tenants text can't express them: {empty} handles without a value, {unsayable} with a space or line feed in the name"
     );
     INCOMPLETE
+}
+
+/// Says on standard error how many handles of which prefixes are left out, since the text lacks these.
+fn say_left_prefixes(rt: &HostRuntime, left: &[LeftPrefix]) {
+    for one in left {
+        let (prefix, handles) = (one.prefix.as_str(), one.handles);
+        let _ = eprintln!(rt;
+            "export: the text has no line for the prefix {prefix:?}: {handles} handles are left out"
+        );
+    }
 }
 
 /// Whether the text has a publisher of this name.
@@ -145,11 +158,12 @@ fn say_length(rt: &HostRuntime, text: &str) {
     }
 }
 
-/// What is exported, and how many handles no text says.
+/// What is exported, how many handles no text says, and which prefixes this one lacks.
 #[derive(Drop)]
 struct Exported {
     text: String,
     left: LeftOut,
+    prefixes: Vec<LeftPrefix>,
 }
 
 /// The table as a tenants text, with the publishers and prefixes of this one.
@@ -159,8 +173,13 @@ fn export_all<R: Rows>(
     rows: &mut R,
 ) -> Result<Exported, TabledFault> {
     let left = left_out(rt.alloc(), text, rows)?;
+    let prefixes = left_prefixes(rt.alloc(), text, rows)?;
     let text = export(rt.alloc(), text, rows)?;
-    Ok(Exported { text, left })
+    Ok(Exported {
+        text,
+        left,
+        prefixes,
+    })
 }
 
 /// The part of this publisher as a tenants text, with the publishers and prefixes of this one.
@@ -172,7 +191,11 @@ fn export_part<R: Rows>(
 ) -> Result<Exported, TabledFault> {
     let left = left_out_of(rt.alloc(), text, publisher, rows)?;
     let text = export_publisher(rt.alloc(), text, publisher, rows)?;
-    Ok(Exported { text, left })
+    Ok(Exported {
+        text,
+        left,
+        prefixes: Vec::new(rt.alloc()),
+    })
 }
 
 /// What writes the table in a file as a tenants text, or the part of the publisher of this name, into a new file or to standard output.
@@ -194,7 +217,12 @@ impl Export<'_> {
 
     /// Says what no text says, and then writes the text. Answers the exit status.
     fn put<R: Rows>(&self, rt: &HostRuntime, rows: &mut R) -> Result<u8, TabledFault> {
-        let Exported { text, left } = self.exported(rt, rows)?;
+        let Exported {
+            text,
+            left,
+            prefixes,
+        } = self.exported(rt, rows)?;
+        say_left_prefixes(rt, prefixes.as_slice());
         let status = say_left_out(rt, left);
         say_length(rt, &text);
         put_text(rt, &text, self.to)?;

@@ -137,6 +137,18 @@ fn access_at(rt: &HostRuntime, path: &str) -> Result<Access, RestoreFault> {
     }
 }
 
+/// Sees that the folder of the table is there, or names it on standard error.
+fn look_at_folder(rt: &HostRuntime, path: &str) -> Result<(), RestoreFault> {
+    let folder = folder_of(path);
+    match fs::metadata(rt, folder) {
+        Ok(_) => Ok(()),
+        Err(e) => {
+            let _ = eprintln!(rt; "restore: cannot read the folder {folder}");
+            Err(RestoreFault::Folder(e.kind()))
+        }
+    }
+}
+
 /// Gives the file this access.
 fn give(rt: &HostRuntime, path: &str, access: Access) -> Result<(), RestoreFault> {
     let Access { owner, group, mode } = access;
@@ -263,6 +275,7 @@ pub fn restore_table(rt: &HostRuntime, from: &str, to: &str) -> Result<(), Table
         return Err(TabledFault::from(RestoreFault::From(e.kind())));
     }
     let _held = hold(rt, to)?;
+    look_at_folder(rt, to)?;
     let (from, to) = (Paths::resolved(rt, from)?, Paths::resolved(rt, to)?);
     let new = paths_beside(rt, &to)?;
     match place_copy(rt, &from, &new, &to) {

@@ -1,11 +1,13 @@
 //! What the lanes of a publisher answered, in numbers.
 
+use crate::histogram::{Histogram, zeros};
 use hdl_msg::{OpCode, ResponseCode};
 use std::alloc::{AllocError, Global};
 use std::fmt;
 use std::fmt::Write;
 use std::sync::atomic::AtomicU64;
 use std::sync::atomic::Ordering::SeqCst;
+use std::time::Duration;
 
 /// The operations that are counted by themselves; all others are counted together.
 const OPERATIONS: [OpCode; 8] = [
@@ -68,17 +70,11 @@ pub struct Counts {
     replies: Vec<AtomicU64>,
     /// How many connections each lane has.
     connections: Vec<AtomicU64>,
+    /// How long replies took, and the label of that.
+    times: Histogram,
+    label: String,
     /// The moment of the last change that was accepted, in milliseconds since the beginning of 1970; 0 where there was none.
     changed: AtomicU64,
-}
-
-/// Counts that are all zero.
-fn zeros(alloc: Global, count: usize) -> Result<Vec<AtomicU64>, AllocError> {
-    let mut zeros = Vec::with_capacity(alloc, count)?;
-    for _ in 0..count {
-        zeros.push(AtomicU64::new(0))?;
-    }
-    Ok(zeros)
 }
 
 impl Counts {
@@ -88,6 +84,8 @@ impl Counts {
             publisher: String::from_str(alloc, publisher)?,
             replies: zeros(alloc, (OPERATIONS.len() + 1) * COLUMNS)?,
             connections: zeros(alloc, usize::from(lanes))?,
+            times: Histogram::new(alloc)?,
+            label: format!(in alloc; "publisher=\"{publisher}\"")?,
             changed: AtomicU64::new(0),
         })
     }
@@ -108,6 +106,11 @@ impl Counts {
         {
             count.fetch_add(1, SeqCst);
         }
+    }
+
+    /// A reply took so long.
+    pub fn count_time(&self, time: Duration) {
+        self.times.count(time);
     }
 
     /// Notes that the lane at this place has `count` connections.
@@ -151,6 +154,12 @@ impl Counts {
             self.put_row(out, row, word_of(*operation))?;
         }
         self.put_row(out, OPERATIONS.len(), "other")
+    }
+
+    /// Puts how long replies took.
+    pub fn put_times<W: Write>(&self, out: &mut W) -> fmt::Result {
+        self.times
+            .put(out, "handled_reply_seconds", self.label.as_str())
     }
 
     /// Puts the line that says how many connections there are.

@@ -90,6 +90,12 @@ impl FileWatch {
         self.log_seen = noted(self.log_seen, seen_at(rt, self.log.as_str()));
     }
 
+    /// How many octets both have now; 0 of one that can't be looked at.
+    pub fn sizes<R: Files>(&self, rt: &R) -> (u64, u64) {
+        let size_of = |path: &str| seen_at(rt, path).map_or(0, |look| look.size);
+        (size_of(self.path.as_str()), size_of(self.log.as_str()))
+    }
+
     /// What another program made of one of them since.
     pub fn change<R: Files>(&self, rt: &R) -> Option<FileChange> {
         let file = change_of(self.file_seen, seen_at(rt, self.path.as_str()));

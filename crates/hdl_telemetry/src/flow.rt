@@ -8,7 +8,13 @@ use std::sync::atomic::{AtomicBool, AtomicU64};
 /// How many octets of a lane's lines wait at most to be written.
 const OCTETS_MOST: u64 = 131_072;
 
-/// What is said on standard error.
+/// What is said on standard error: once lines begin to be lost, and if the file can't be opened anew.
+const LOSING: &str =
+    "log: lines are lost: the log's reader or its disk is too slow. Changes are answered as before; how many lines were lost is said here once they are written again\n";
+
+const UNOPENED: &str =
+    "log: the file can't be opened anew, so lines go on into the one that is open: see that the program may write in its folder, and ask again\n";
+
 const FAILING: &str =
     "log: a line can't be written: the disk may be full. Changes are answered as before; their lines are lost until there is room";
 
@@ -42,14 +48,20 @@ impl Backlog {
     }
 }
 
-/// How many lines were lost, and what is said of that; whether more lines come, and whether all are written. Voices, the thread that writes and the one that tells share it.
+/// How many lines were lost, and what is said of that; whether the file is to be opened anew; whether more lines come, and whether all are written. Voices, the thread that writes, the
+/// one that tells and who opens the file share it.
 #[derive(Drop)]
 pub struct Flow {
     lost: AtomicU64,
     /// How many lost lines may be reported, and how many were.
     shown: AtomicU64,
     told: AtomicU64,
+    /// Whether it was said that lines are lost, since the last report.
+    is_losing: AtomicBool,
     failing: Notice,
+    /// Whether the file is to be opened anew, and whether it couldn't be.
+    is_asked: AtomicBool,
+    is_unopened: AtomicBool,
     is_over: AtomicBool,
     is_written: AtomicBool,
 }
@@ -61,7 +73,10 @@ impl Flow {
             lost: AtomicU64::new(0),
             shown: AtomicU64::new(0),
             told: AtomicU64::new(0),
+            is_losing: AtomicBool::new(false),
             failing: Notice::new(alloc, FAILING)?,
+            is_asked: AtomicBool::new(false),
+            is_unopened: AtomicBool::new(false),
             is_over: AtomicBool::new(false),
             is_written: AtomicBool::new(false),
         })
@@ -77,10 +92,10 @@ impl Flow {
         self.lost.load(SeqCst)
     }
 
-    /// A line couldn't be written.
+    /// A line couldn't be written. The reason is raised first, so that it is what is said of the loss.
     pub(crate) fn fail(&self) {
-        self.lose();
         self.failing.raise();
+        self.lose();
     }
 
     /// Lines are written again: from now on the number of lost lines is to be reported.
@@ -93,21 +108,65 @@ impl Flow {
         self.shown.load(SeqCst).wrapping_sub(self.told.load(SeqCst))
     }
 
+    /// Whether lines are lost of which nothing was said yet.
+    fn begins_to_lose(&self) -> bool {
+        self.lost() != self.told.load(SeqCst) && !self.is_losing.load(SeqCst)
+    }
+
     /// Whether a line is still to be printed.
     pub fn has_due(&self) -> bool {
-        self.failing.is_due() || self.untold() > 0
+        self.failing.is_due()
+            || self.begins_to_lose()
+            || self.untold() > 0
+            || self.is_unopened.load(SeqCst)
+    }
+
+    /// Says that lines are lost, by the reason if it is known.
+    fn say_losing<R: Eprint>(&self, rt: &R) {
+        if self.failing.is_due() {
+            self.failing.say_if_due(rt);
+        } else {
+            let _ = eprint!(rt; "{LOSING}");
+        }
+        self.is_losing.store(true, SeqCst);
+    }
+
+    /// Says how many lines were lost since the last report.
+    fn say_lost<R: Eprint>(&self, rt: &R, more: u64) {
+        let _ = eprint!(rt;
+            "log: {more} lines were lost: the log's reader was too slow, or the disk was full. Their changes were answered as before\n"
+        );
+        self.told.fetch_add(more, SeqCst);
+        self.is_losing.store(false, SeqCst);
     }
 
     /// Says on standard error what is due. One thread alone does.
     pub fn say_due<R: Eprint>(&self, rt: &R) {
-        self.failing.say_if_due(rt);
         let more = self.untold();
-        if more > 0 {
-            let _ = eprint!(rt;
-                "log: {more} lines were lost: the log's reader was too slow, or the disk was full. Their changes were answered as before\n"
-            );
-            self.told.fetch_add(more, SeqCst);
+        if self.failing.is_due() || more == 0 && self.begins_to_lose() {
+            self.say_losing(rt);
         }
+        if more > 0 {
+            self.say_lost(rt, more);
+        }
+        if self.is_unopened.swap(false, SeqCst) {
+            let _ = eprint!(rt; "{UNOPENED}");
+        }
+    }
+
+    /// Asks for the file to be opened anew.
+    pub fn ask_anew(&self) {
+        self.is_asked.store(true, SeqCst);
+    }
+
+    /// Whether that was asked for since the last look.
+    pub(crate) fn takes_word(&self) -> bool {
+        self.is_asked.swap(false, SeqCst)
+    }
+
+    /// The file couldn't be opened anew.
+    pub(crate) fn miss_file(&self) {
+        self.is_unopened.store(true, SeqCst);
     }
 
     /// Notes that no more lines come.

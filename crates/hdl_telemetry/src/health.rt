@@ -1,24 +1,26 @@
 //! Whether a server's table takes changes, and why not.
 
 use crate::file_watch::FileChange;
+use crate::histogram::Histogram;
 use crate::notice::Notice;
 use crate::room::has_room;
 use std::alloc::{AllocError, Global};
 use std::sync::atomic::Ordering::SeqCst;
 use std::sync::atomic::{AtomicBool, AtomicU64};
+use std::time::Duration;
 
 /// What is said on standard error.
 const SHUT: &str =
     "table: shut for writes: a sync failed, so the file may have the last change or not. Reads go on; changes are answered busy. Repair the disk, then restart";
 
 const GONE: &str =
-    "table: shut for writes: the file or its log is gone from its path. Reads go on; changes are answered busy. Move both back, or copy them from /proc/PID/fd of this process, then restart";
+    "table: shut for writes: the file or its log is gone from its path. Reads go on; changes are answered busy. Move both back: changes then go on. Or copy them from /proc/PID/fd of this process, and restart";
 
 const REPLACED: &str =
-    "table: shut for writes: another file is at the path of the file or its log. Reads go on; changes are answered busy. Move both back, or copy them from /proc/PID/fd of this process; then restart with one of the two";
+    "table: shut for writes: another file is at the path of the file or its log. Reads go on; changes are answered busy. Move both back: changes then go on. Or copy them from /proc/PID/fd of this process, and restart with one of the two";
 
 const OVERWRITTEN: &str =
-    "table: shut for writes: another program wrote the file or its log. Reads go on; changes are answered busy. Put a whole copy of both in their place, then restart";
+    "table: shut for writes: another program wrote the file or its log. Reads go on; changes are answered busy. If nothing else wrote them (`touch` counts), restart; otherwise restore a copy";
 
 const FAILING: &str =
     "table: a change can't be written: the disk may be full, or memory short. Reads go on; such a change is answered busy, and nothing of it is done. Make room";
@@ -46,6 +48,8 @@ pub struct Health {
     /// Whether the last change couldn't be written, and how many couldn't.
     is_failing: AtomicBool,
     failures: AtomicU64,
+    /// How long changes took until they were in the file.
+    commits: Histogram,
     /// How many octets of memory are kept aside, whether they couldn't be had when that was seen last, and how many changes were refused for that.
     reserve: usize,
     is_short: AtomicBool,
@@ -67,6 +71,7 @@ impl Health {
             is_away: AtomicBool::new(false),
             is_failing: AtomicBool::new(false),
             failures: AtomicU64::new(0),
+            commits: Histogram::new(alloc)?,
             reserve,
             is_short: AtomicBool::new(false),
             refusals: AtomicU64::new(0),
@@ -107,6 +112,16 @@ impl Health {
             self.failures.fetch_add(1, SeqCst);
             self.failing.raise();
         }
+    }
+
+    /// Notes how long a change took until it was in the file.
+    pub fn note_commit(&self, time: Duration) {
+        self.commits.count(time);
+    }
+
+    /// How long changes took until they were in the file.
+    pub fn commits(&self) -> &Histogram {
+        &self.commits
     }
 
     /// Whether the last change couldn't be written.

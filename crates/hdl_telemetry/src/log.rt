@@ -5,6 +5,7 @@
 //! ```
 
 use crate::flow::{Backlog, Flow};
+use crate::log_file::{LogFile, open_log};
 use hdl_lanes::{Inlet, Outlet, lane};
 use std::alloc::{AllocError, Global};
 use std::fs::File;
@@ -19,6 +20,9 @@ const LINES_MOST: usize = 1024;
 
 /// For how many milliseconds the thread sleeps that found no line.
 const PAUSE: u64 = 20;
+
+/// How many files wait at most to be written to.
+const FILES_MOST: usize = 1;
 
 /// Where lines go.
 #[derive(Drop)]
@@ -74,6 +78,8 @@ impl Queue {
 #[derive(Drop)]
 struct Pen {
     sink: Sink,
+    /// Where the file comes from once it was opened anew.
+    files: Option<Outlet<File>>,
     flow: Arc<Flow>,
     /// Whether the last line couldn't be written.
     is_failing: bool,
@@ -89,6 +95,15 @@ impl Pen {
         self.is_failing = written.is_err();
         if self.is_failing {
             self.flow.fail();
+        }
+    }
+
+    /// Goes on in the file that was opened anew, if one was. The one before is closed.
+    fn turn(&mut self) {
+        if let Some(files) = &mut self.files {
+            if let Some(file) = files.take() {
+                self.sink = Sink::File(file);
+            }
         }
     }
 
@@ -114,6 +129,7 @@ impl Log {
             queues: Vec::new(alloc),
             pen: Pen {
                 sink,
+                files: None,
                 flow,
                 is_failing: false,
             },
@@ -125,9 +141,19 @@ impl Log {
         Log::new(alloc, Sink::Errors)
     }
 
-    /// A log that appends to this file, which was opened for that.
-    pub fn to_file(alloc: Global, file: File) -> io::Result<Log> {
-        Log::new(alloc, Sink::File(file))
+    /// A log that appends to the file at a path, and what opens that anew. The file is made if it isn't there.
+    pub fn to_file(rt: &HostRuntime, path: &str) -> io::Result<(Log, LogFile)> {
+        let alloc = rt.alloc();
+        let mut log = Log::new(alloc, Sink::File(open_log(rt, path)?))?;
+        let (inlet, files) = lane(alloc, FILES_MOST)?;
+        log.pen.files = Some(files);
+        let file = LogFile {
+            rt: *rt,
+            path: String::from_str(alloc, path)?,
+            files: inlet,
+            flow: log.flow()?,
+        };
+        Ok((log, file))
     }
 
     /// The flow of the log's lines.
@@ -167,6 +193,7 @@ impl Log {
     pub fn write_lines<R: Clock + Eprint>(&mut self, rt: &R) {
         for _ in 0..u64::MAX {
             let is_over = self.pen.flow.is_over();
+            self.pen.turn();
             if self.write_round(rt) {
                 continue;
             }

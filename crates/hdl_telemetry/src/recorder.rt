@@ -2,6 +2,7 @@
 
 use crate::counts::Counts;
 use crate::log::Voice;
+use crate::stopwatch::Stopwatch;
 use hdl_audit::{Detail, Entry, Follower, Moment, UnansweredFrame};
 use hdl_frame::Cutter;
 use std::alloc::{AllocError, Global};
@@ -39,6 +40,7 @@ pub struct Recorder<R> {
     lane: usize,
     voice: Option<Voice>,
     follower: Follower,
+    stopwatch: Stopwatch,
 }
 
 impl<R: Clock + Drop> Recorder<R> {
@@ -51,6 +53,7 @@ impl<R: Clock + Drop> Recorder<R> {
             counts: Arc::try_clone(&record.counts)?,
             lane,
             follower: Follower::new(alloc, detail_for(&voice)),
+            stopwatch: Stopwatch::new(),
             voice,
         })
     }
@@ -63,12 +66,20 @@ impl<R: Clock + Drop> Recorder<R> {
     /// A connection begins, or nothing of the lane is certain any more.
     fn begin(&mut self) {
         self.follower = Follower::new(self.alloc, detail_for(&self.voice));
+        self.stopwatch = Stopwatch::new();
+    }
+
+    /// A frame came.
+    fn note_request(&mut self, peer: u16, frame: &[u8]) {
+        self.stopwatch.begin(&self.rt);
+        self.follower.note_request(peer, frame);
     }
 
     /// A frame came on a lane that has one at a time.
     pub fn note_lone_request(&mut self, peer: u16, frame: &[u8]) {
         self.follower.forget_unanswered();
-        self.follower.note_request(peer, frame);
+        self.stopwatch = Stopwatch::new();
+        self.note_request(peer, frame);
     }
 
     /// The moment, in milliseconds since the beginning of 1970; 0 where the clock fails.
@@ -84,6 +95,10 @@ impl<R: Clock + Drop> Recorder<R> {
 
     /// A frame of a reply goes. The entry of the change that it ends, where there is a log.
     pub fn note_reply(&mut self, peer: u16, frame: &[u8]) -> Option<Entry> {
+        let time = self.stopwatch.end(&self.rt);
+        if let Some(time) = time {
+            self.counts.count_time(time);
+        }
         let followed = self.follower.note_reply(peer, frame)?;
         self.counts.count(followed.operation, followed.answer.code);
         if followed.answer.accepts_change() {
@@ -229,7 +244,7 @@ impl<R: Clock + Drop> StreamRecorder<R> {
         // each frame ends with one of these octets or after it
         for _ in 0..octets.len() {
             match cutter.next_frame() {
-                Ok(Some(frame)) => self.recorder.follower.note_request(0, frame.bytes),
+                Ok(Some(frame)) => self.recorder.note_request(0, frame.bytes),
                 _ => break,
             }
         }

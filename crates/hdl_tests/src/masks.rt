@@ -14,11 +14,8 @@ use std::test::Fail;
 /// The administrator of `10/c` is a list with this number of references: `20/keys` from index 1 on.
 const LISTED: u32 = 3_000;
 
-/// The handle's values, its list, and each reference of the list.
-const LOOKS: u64 = 3_002;
-
-/// The calls by which two handles are made.
-const CREATES: u64 = 4;
+/// The heads of the handle's values, its HS_ADMIN value, its list, and each reference of the list; and the four calls by which two handles are made.
+const LOOKS: u64 = 3_003 + 4;
 
 /// The mask of who may do everything.
 const ALL: Result<Option<AdminMask>, Refused> = Ok(Some(AdminMask(0x0fff)));
@@ -33,7 +30,7 @@ fn list(alloc: Global) -> Result<Vec<u8>, AllocError> {
     Ok(data)
 }
 
-/// A table whose looks are answered up to this one, and refused behind it.
+/// A table whose calls are answered up to this one, and refused behind it.
 fn table(rt: &impl Abort, alloc: Global, answered: u64) -> Result<Fuse<PlainRows>, Fail> {
     let mut rows = PlainRows::new(alloc);
     let admin = value(alloc, 100, b"HS_ADMIN", b"\x0f\xff\0\0\0\x0410/g\0\0\0\x01")?;
@@ -71,20 +68,62 @@ fn finds(
     same(rt, what, rows.mask(name, key), wanted);
 }
 
+/// The search that a key began goes on by one that somebody made up, and serves for all.
+fn serves_every_key<R: Masked>(
+    rt: &impl Abort,
+    alloc: Global,
+    rows: &mut R,
+    name: &Name,
+    last: &Reference,
+) -> Result<(), Fail> {
+    let made_up = key(alloc, LISTED + 1)?;
+    finds(rt, "second", rows, name, &made_up, Err(Refused));
+    finds(rt, "third", rows, name, &made_up, Ok(None));
+    finds(rt, "the last", rows, name, last, ALL);
+    finds(rt, "the first", rows, name, &key(alloc, 1)?, ALL);
+    same(rt, "refused", rows.refusals(), 0);
+    Ok(())
+}
+
+/// A change of a handle that the search didn't see leaves it; one of a handle in a list ends it.
+fn ends_by_a_change<R: Masked>(
+    rt: &impl Abort,
+    alloc: Global,
+    rows: &mut R,
+    name: &Name,
+    last: &Reference,
+) -> Result<(), Fail> {
+    create(rt, alloc, rows, b"20/key")?;
+    finds(rt, "of another handle", rows, name, last, ALL);
+    create(rt, alloc, rows, b"20/keys")?;
+    finds(rt, "of a key's handle", rows, name, last, Err(Refused));
+    same(rt, "refused", rows.refusals(), 1);
+    Ok(())
+}
+
+fn goes_on<R: Masked>(
+    rt: &impl Abort,
+    alloc: Global,
+    rows: &mut R,
+    name: &Name,
+    last: &Reference,
+) -> Result<(), Fail> {
+    serves_every_key(rt, alloc, rows, name, last)?;
+    ends_by_a_change(rt, alloc, rows, name, last)
+}
+
 /// One call looks up the list, which counts 45,074 octets, and as many of its references as 20,462 octets more are, 32 each; the next 2,048 of these.
-/// Both are refused, which no table counts. The third ends, and each reference was looked up once.
+/// Both are refused, which no table counts. The third ends, and each reference was looked up once. What was found serves for every key, those that
+/// somebody made up too: the table is asked nothing more. A change of a handle that the search didn't see leaves it; one of a handle in a list ends it.
 #[test]
-fn a_search_goes_on(rt: HostRuntime) -> Result<(), Fail> {
+fn a_search_goes_on_until_its_handles_change(rt: HostRuntime) -> Result<(), Fail> {
     let rows = table(&rt, rt.alloc(), LOOKS)?;
     let mut rows = MaskedRows::new(rt.alloc(), rows)?;
     let name = Name::read(rt.alloc(), b"10/c")?;
     let last = key(rt.alloc(), LISTED)?;
     let first = rows.mask(&name, &last);
     same(&rt, "first", first, Err(Refused));
-    finds(&rt, "second", &mut rows, &name, &last, Err(Refused));
-    finds(&rt, "third", &mut rows, &name, &last, ALL);
-    same(&rt, "refused", rows.refusals(), 0);
-    Ok(())
+    goes_on(&rt, rt.alloc(), &mut rows, &name, &last)
 }
 
 /// How many lists of the same references there are.
@@ -101,73 +140,56 @@ fn list_of_lists(alloc: Global) -> Result<Vec<u8>, AllocError> {
     Ok(data)
 }
 
-/// A table where a list leads to these lists.
-fn table_of_lists(rt: &impl Abort, alloc: Global) -> Result<PlainRows, Fail> {
-    let mut rows = PlainRows::new(alloc);
+/// Puts a list of this data.
+fn put_list(
+    rt: &impl Abort,
+    alloc: Global,
+    rows: &mut PlainRows,
+    index: u32,
+    data: &[u8],
+) -> Result<(), Fail> {
+    put(
+        rt,
+        alloc,
+        rows,
+        b"10/g",
+        value(alloc, index, b"HS_VLIST", data)?,
+    )
+}
+
+/// Puts a handle whose list leads to these lists.
+fn put_lists(rt: &impl Abort, alloc: Global, rows: &mut PlainRows) -> Result<(), Fail> {
     let admin = value(alloc, 100, b"HS_ADMIN", b"\x0f\xff\0\0\0\x0410/g\0\0\0\x01")?;
-    put(rt, alloc, &mut rows, b"10/c", admin)?;
-    let lists = list_of_lists(alloc)?;
-    let first = value(alloc, 1, b"HS_VLIST", lists.as_slice())?;
-    put(rt, alloc, &mut rows, b"10/g", first)?;
+    put(rt, alloc, rows, b"10/c", admin)?;
+    put_list(rt, alloc, rows, 1, &list_of_lists(alloc)?)?;
     let data = list(alloc)?;
     for index in 0..LISTS {
-        let listed = value(alloc, index.saturating_add(2), b"HS_VLIST", data.as_slice())?;
-        put(rt, alloc, &mut rows, b"10/g", listed)?;
+        put_list(rt, alloc, rows, index.saturating_add(2), &data)?;
     }
+    Ok(())
+}
+
+fn table_of_lists(rt: &impl Abort, alloc: Global) -> Result<PlainRows, Fail> {
+    let mut rows = PlainRows::new(alloc);
+    put_lists(rt, alloc, &mut rows)?;
     Ok(rows)
+}
+
+/// The mask of the key is found by the fourth call.
+fn finds_by_four<R: Masked>(rt: &impl Abort, rows: &mut R, name: &Name, key: &Reference) {
+    for what in ["first", "second", "third"] {
+        finds(rt, what, rows, name, key, Err(Refused));
+    }
+    finds(rt, "fourth", rows, name, key, ALL);
 }
 
 /// What lists hold counts where it was known too: the fourth list of the same references takes a call more, though it brings none.
 #[test]
 fn what_lists_hold_counts(rt: HostRuntime) -> Result<(), Fail> {
+    let name = Name::read(rt.alloc(), b"10/c")?;
+    let last = key(rt.alloc(), LISTED)?;
     let rows = table_of_lists(&rt, rt.alloc())?;
     let mut rows = MaskedRows::new(rt.alloc(), rows)?;
-    let name = Name::read(rt.alloc(), b"10/c")?;
-    let last = key(rt.alloc(), LISTED)?;
-    for what in ["first", "second", "third"] {
-        finds(&rt, what, &mut rows, &name, &last, Err(Refused));
-    }
-    finds(&rt, "fourth", &mut rows, &name, &last, ALL);
-    Ok(())
-}
-
-/// What a search has found serves for every key, those that somebody made up too: the table is asked nothing more.
-#[test]
-fn a_search_serves_every_key(rt: HostRuntime) -> Result<(), Fail> {
-    let rows = table(&rt, rt.alloc(), LOOKS)?;
-    let mut rows = MaskedRows::new(rt.alloc(), rows)?;
-    let name = Name::read(rt.alloc(), b"10/c")?;
-    let made_up = key(rt.alloc(), LISTED + 1)?;
-    let one = key(rt.alloc(), 1)?;
-    finds(&rt, "first", &mut rows, &name, &made_up, Err(Refused));
-    finds(&rt, "second", &mut rows, &name, &made_up, Err(Refused));
-    finds(&rt, "made up", &mut rows, &name, &made_up, Ok(None));
-    finds(&rt, "listed", &mut rows, &name, &one, ALL);
-    same(&rt, "refused", rows.refusals(), 0);
-    Ok(())
-}
-
-/// A change of a handle that the search didn't see leaves it; one of a handle in a list ends it.
-#[test]
-fn a_change_ends_what_saw_its_handle(rt: HostRuntime) -> Result<(), Fail> {
-    let rows = table(&rt, rt.alloc(), LOOKS + CREATES)?;
-    let mut rows = MaskedRows::new(rt.alloc(), rows)?;
-    let name = Name::read(rt.alloc(), b"10/c")?;
-    let last = key(rt.alloc(), LISTED)?;
-    finds(&rt, "first", &mut rows, &name, &last, Err(Refused));
-    finds(&rt, "second", &mut rows, &name, &last, Err(Refused));
-    finds(&rt, "third", &mut rows, &name, &last, ALL);
-    create(&rt, rt.alloc(), &mut rows, b"20/key")?;
-    finds(&rt, "of another handle", &mut rows, &name, &last, ALL);
-    create(&rt, rt.alloc(), &mut rows, b"20/keys")?;
-    finds(
-        &rt,
-        "of a key's handle",
-        &mut rows,
-        &name,
-        &last,
-        Err(Refused),
-    );
-    same(&rt, "refused", rows.refusals(), 1);
+    finds_by_four(&rt, &mut rows, &name, &last);
     Ok(())
 }

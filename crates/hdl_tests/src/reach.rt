@@ -332,12 +332,12 @@ const SHARED_LIST: [Row; 4] = [
     (b"10/g", 1, LIST, b"\0\0\0\x01\0\0\0\x0720/keys\0\0\0\x03"),
 ];
 
-/// Of two administrators that share a list, each reference is looked up once for both.
+/// Of two administrators that share a list, each reference is looked up once for both: the handle's heads, its two HS_ADMIN values, and three references.
 #[test]
 fn looks_once(rt: HostRuntime) -> Result<(), Fail> {
     let name = Name::read(rt.alloc(), b"10/c")?;
     let key = reference(rt.alloc(), b"20/keys", 3)?;
-    for (look, want) in [(4, Err(Refused)), (5, Ok(Some(AdminMask(3))))] {
+    for (look, want) in [(6, Err(Refused)), (7, Ok(Some(AdminMask(3))))] {
         let mut rows = Fuse::new(table(&rt, rt.alloc(), &SHARED_LIST)?, look, look);
         let found = mask(rt.alloc(), &mut rows, &name, &key);
         same(&rt, look, found, want);

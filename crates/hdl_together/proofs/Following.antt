@@ -4,7 +4,7 @@ use Rattle.std.proofs.lemmas.Bool.{eq-eqb, ne_eqb}
 use Rattle.hdl_rows.specs.Table.{Table}
 use Rattle.hdl_ops.specs.declared.change.Change.{Change}
 use Rattle.hdl_ops.specs.Tables.{apply_if}
-use Rattle.hdl_laws.specs.Worlds.{World, owner}
+use Rattle.hdl_laws.specs.Worlds.{World, with_table, owner}
 use Rattle.hdl_laws.specs.Steps.{Turn, IsStep, IsAnswerFor, moment_of}
 use Rattle.hdl_laws.specs.Runs.{IsRun, last}
 use Rattle.hdl_together.specs.Together.{ServerTurn, at_server, world_after, KeepTable, AreTheirs}
@@ -19,7 +19,7 @@ kept_for : (w : World) (step : Turn) (o : Option ℕ) → IsAnswerFor w o step �
 kept_for w step None a none = ap (λ (z : Turn). z.after.table) a
 kept_for w step (Some u) a none = ap (λ (z : Turn). z.after.table) a.4 ∙ none_written w.table (moment_of step.event.what) a.0.change (sym (ap (λ (z : Turn). z.change) a.4) ∙ none)
 
-kept_by : (w : World) (step : Turn) → IsStep w step → step.change ≡ None → step.after.table ≡ w.table
+pub kept_by : (w : World) (step : Turn) → IsStep w step → step.change ≡ None → step.after.table ≡ w.table
 kept_by w step (inl a) none = kept_for w step (owner w.site step.event.lane) a none
 kept_by w step (inr b) none = ap (λ (z : Turn). z.after.table) b.busy
 
@@ -32,12 +32,12 @@ record Front (server : ℕ) (w : World) (before : List Turn) (after : List Part)
   pub along : FollowsList server after cs
 
 own_world : (server : ℕ) (step : Turn) (w : World) → world_after (at_server server step) server w ≡ step.after
-own_world server step w = ap (λ b. cond b step.after (record { site = w.site; table = step.after.table; lanes = w.lanes })) (eq-eqb server server refl)
+own_world server step w = ap (λ b. cond b step.after (with_table w step.after.table)) (eq-eqb server server refl)
 
-other_world : (c : ServerTurn) (server : ℕ) (w : World) (t : Table) → (c.server ≡ server → ⊥) → c.step.after.table ≡ t → world_after c server w ≡ record { site = w.site; table = t; lanes = w.lanes }
+other_world : (c : ServerTurn) (server : ℕ) (w : World) (t : Table) → (c.server ≡ server → ⊥) → c.step.after.table ≡ t → world_after c server w ≡ with_table w t
 other_world c server w t other e =
-    ap (λ b. cond b c.step.after (record { site = w.site; table = c.step.after.table; lanes = w.lanes })) (ne_eqb server c.server (λ is. other (sym is)))
-    ∙ (λ i. record { site = w.site; table = e i; lanes = w.lanes })
+    ap (λ b. cond b c.step.after (with_table w c.step.after.table)) (ne_eqb server c.server (λ is. other (sym is)))
+    ∙ (λ i. with_table w (e i))
 
 front : (server : ℕ) (w : World) (ps : List Part) (c : ServerTurn) (cs : List ServerTurn) → AreParts w ps → FollowsList server ps (c ∷ cs) → Front server w (before_change ps) (after_change ps) c cs
 front server w [] c cs parts along = record { run = tt; keep = tt; own = λ e. absurd (along.0 e); on = tt; along = along.1 }

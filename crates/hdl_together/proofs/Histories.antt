@@ -3,14 +3,11 @@ use Rattle.std.proofs.Common.{◌≡◌, ℕ, zero, suc, ◌<◌, List, [], ◌�
 use Rattle.std.proofs.lemmas.Bool.{eqb-true, eq-eqb}
 use Rattle.std.proofs.lemmas.Bool.Decides.{nat_tests}
 use Rattle.hdl_rows.specs.Table.{Table}
-use Rattle.hdl_laws.specs.Worlds.{World}
+use Rattle.hdl_laws.specs.Worlds.{World, with_table}
 use Rattle.hdl_laws.specs.Steps.{Turn, IsStep}
 use Rattle.hdl_laws.specs.Runs.{IsRun, last}
 use Rattle.hdl_together.specs.Together.{ServerTurn, at_server, worlds_after, last_worlds, AreSteps, KeepTable, IsHistory, turns_of_first, all_turns}
 use Rattle.hdl_together.specs.Laws.{HistoriesAreSteps}
-
-abbrev with_table : World → Table → World
-with_table world table = record { site = world.site; table = table; lanes = world.lanes }
 
 -- worlds with another one at a server
 abbrev put : (ℕ → World) → ℕ → World → ℕ → World

@@ -1,4 +1,6 @@
 mod Histories
 mod Merging
-mod Following
+pub mod Following
 mod Kept
+mod Whole
+pub mod Parts

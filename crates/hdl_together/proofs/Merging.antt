@@ -16,7 +16,7 @@ use Rattle.hdl_msg.specs.Reply.{short_reply}
 use Rattle.hdl_ops.specs.Tables.{apply_if}
 use Rattle.hdl_laws.specs.Lanes.{LaneState, fresh}
 use Rattle.hdl_laws.specs.Speech.{Speech}
-use Rattle.hdl_laws.specs.Worlds.{World, Site, owner, hosts, algorithms, speech, lane_of}
+use Rattle.hdl_laws.specs.Worlds.{World, Site, with_table, owner, hosts, algorithms, speech, lane_of}
 use Rattle.hdl_laws.specs.Tasks.{IsTask}
 use Rattle.hdl_laws.specs.Effects.{Effect, Does}
 use Rattle.hdl_laws.specs.Steps.{Turn, turn, moment_of, after_effect, IsAnswerFor, IsBusy, IsStep}
@@ -151,7 +151,7 @@ module _ (number : ℕ → ℕ → ℕ) (worlds : ℕ → World) (whole : World)
   has_after : HasAll number (worlds_after worlds p) it.step.after
   has_after r = pick (r == p.server) refl
     where
-      pick : (b : Bool) → (r == p.server) ≡ b → HasServer number r (cond b p.step.after (record { site = (worlds r).site; table = p.step.after.table; lanes = (worlds r).lanes })) it.step.after
+      pick : (b : Bool) → (r == p.server) ≡ b → HasServer number r (cond b p.step.after (with_table (worlds r) p.step.after.table)) it.step.after
       pick true e = subst (λ s. HasServer number s p.step.after it.step.after) (sym (eqb-true r p.server e)) it.own
       pick false e =
           let other : r ≡ p.server → ⊥ = λ is. true≢false (sym (eq-eqb r p.server is) ∙ e) in

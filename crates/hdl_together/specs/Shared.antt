@@ -2,7 +2,7 @@
 use Rattle.std.specs.Prelude.{◌≡◌, ◌≢◌, ℕ, ◌<◌, List, [], ◌∷◌, ◌==◌, Option, Some, None, map, filter, ⊤}
 use Rattle.hdl_rows.specs.Table.{Table}
 use Rattle.hdl_ops.specs.declared.change.Change.{Change}
-use Rattle.hdl_laws.specs.Worlds.{World}
+use Rattle.hdl_laws.specs.Worlds.{World, with_table}
 use Rattle.hdl_laws.specs.Steps.{Turn, IsStep}
 use Rattle.hdl_together.specs.Together.{ServerTurn, at_server, Stage}
 
@@ -15,7 +15,13 @@ pub data Part : Type 0 where
 abbrev pub AreParts : World → List Part → Type 0
 AreParts world [] = ⊤
 AreParts world (Took step ∷ parts) = IsStep world step × AreParts step.after parts
-AreParts world (TookOver table ∷ parts) = AreParts (record { site = world.site; table = table; lanes = world.lanes }) parts
+AreParts world (TookOver table ∷ parts) = AreParts (with_table world table) parts
+
+-- the world after the parts
+abbrev pub after_parts : World → List Part → World
+after_parts world [] = world
+after_parts world (Took step ∷ parts) = after_parts step.after parts
+after_parts world (TookOver table ∷ parts) = after_parts (with_table world table) parts
 
 -- ---- the list of changes
 

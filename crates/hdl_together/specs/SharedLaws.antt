@@ -1,6 +1,6 @@
 -- The laws of what servers with one list of changes did.
 use Rattle.std.specs.Prelude.{◌≡◌, ℕ, ◌<◌, List}
-use Rattle.hdl_laws.specs.Worlds.{World}
+use Rattle.hdl_laws.specs.Worlds.{World, speech}
 use Rattle.hdl_laws.specs.Laws.{HostsNoRoot}
 use Rattle.hdl_together.specs.Together.{AreApart, HasAll, ServerTurn, IsHistory, all_turns}
 use Rattle.hdl_together.specs.Laws.{IsOneService}
@@ -30,3 +30,21 @@ SharingIsOne =
     → AreApart number → HostsNoRoot whole.site → HasAll number worlds whole → AreAmong servers changes
     → ((server : ℕ) → server < servers → AreParts (worlds server) (parts server)) → ((server : ℕ) → server < servers → FollowsList server (parts server) changes)
     → IsOneService number whole (shared_turns servers parts changes)
+
+-- ---- the premises can be met
+
+-- there are numbers for the lanes of all servers
+abbrev pub HasNumbering : Type 0
+HasNumbering = (number : ℕ → ℕ → ℕ) × AreApart number
+
+-- two servers host the same prefixes, their publishers' lanes speak alike, and they have one table
+pub record AreAlike (one other : World) : Type 0 where
+  pub hostings : one.site.hostings ≡ other.site.hostings
+  pub spoken : (publisher : ℕ) → speech one.site publisher ≡ speech other.site publisher
+  pub table : one.table ≡ other.table
+
+-- of servers that are alike there is one service that has the lanes of all; the servers beyond them have no lanes
+abbrev pub HasWhole : Type 0
+HasWhole =
+    (number : ℕ → ℕ → ℕ) (servers : ℕ) (worlds : ℕ → World) (like : World) → AreApart number → ((server : ℕ) → server < servers → AreAlike (worlds server) like)
+    → (all : ℕ → World) × (whole : World) × ((server : ℕ) → server < servers → all server ≡ worlds server) × AreAlike whole like × HasAll number all whole

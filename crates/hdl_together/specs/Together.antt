@@ -2,7 +2,7 @@
 use Rattle.std.specs.Prelude.{◌≡◌, ℕ, zero, suc, ◌<◌, List, [], ◌∷◌, ◌++◌, ◌==◌, if◌then◌else◌, map, ⊤}
 use Rattle.hdl_events.specs.declared.Event.{Event}
 use Rattle.hdl_events.specs.declared.Outcome.{Outcome}
-use Rattle.hdl_laws.specs.Worlds.{World, owner, speech, lane_of}
+use Rattle.hdl_laws.specs.Worlds.{World, with_table, owner, speech, lane_of}
 use Rattle.hdl_laws.specs.Steps.{Turn, IsStep}
 use Rattle.hdl_laws.specs.Runs.{IsRun, last, outcomes}
 
@@ -36,7 +36,7 @@ at_server server step = record { server = server; step = step }
 
 -- a server's world after a turn: the world that its own turn leaves, or its world with the table that the turn of another leaves
 abbrev pub world_after : ServerTurn → ℕ → World → World
-world_after taken server world = if server == taken.server then taken.step.after else record { site = world.site; table = taken.step.after.table; lanes = world.lanes }
+world_after taken server world = if server == taken.server then taken.step.after else with_table world taken.step.after.table
 
 -- all servers' worlds after a turn
 abbrev pub worlds_after : (ℕ → World) → ServerTurn → ℕ → World

@@ -7,6 +7,8 @@
 //! `specs/Shared.antt` says what a server itself can record: its turns, and the tables that it took over. If these follow one list of changes, each a turn of one server, [`sharing`]
 //! cuts them into such histories and keeps each server's turns in their order.
 //!
+//! The premises can be met: there are numbers for the lanes of all (`has_numbering`), and one service that has them (`has_whole`).
+//!
 //! It stands on the definitions of hdl_laws alone. There is no code here, and no server runs so yet.
 #![tactic(auto)]
 

@@ -1,6 +1,6 @@
 //! Laws of what servers with one list of changes did, each the contract of a function without a body.
 
-ghost use Rattle.hdl_together.specs.SharedLaws.{KeepsTurns, SharedAreHistories, SharingIsOne};
+ghost use Rattle.hdl_together.specs.SharedLaws.{HasNumbering, HasWhole, KeepsTurns, SharedAreHistories, SharingIsOne};
 
 use crate::laws::servers_are_one;
 
@@ -21,3 +21,13 @@ pub fn sharing_is_one()
     servers_are_one();
     shared_are_histories();
 }
+
+/// There are numbers for the lanes of all servers, no number for two. So this premise can be met.
+pub fn has_numbering()
+    ensures { HasNumbering }
+{}
+
+/// If servers host the same prefixes, speak alike and start with one table, there is one service that has the lanes of all. So this premise can be met.
+pub fn has_whole()
+    ensures { HasWhole }
+{}

@@ -44,7 +44,7 @@ impl ResponseContext {
             Some(field) => Some(field.as_str()),
             None => None,
         };
-        let answer = self.site.dress(alloc, answer)?;
+        let answer = self.site.dress(alloc, self.site.bound(answer))?;
         with_tag(alloc, answer, known)
     }
 }

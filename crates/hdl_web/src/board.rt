@@ -7,6 +7,7 @@ use crate::lifetime::lifetime;
 use crate::log::Visit;
 use crate::metrics::Counts;
 use crate::servers::Resolver;
+use crate::standbys::Standbys;
 use crate::ways::{KeptAnswers, KeptRedirect};
 use crate::worker::Errand;
 use crossbeam_channel::Sender;
@@ -37,6 +38,16 @@ pub(crate) struct ServerRecord {
     pub(crate) failed: AtomicU64,
 }
 
+impl ServerRecord {
+    /// Notes that the server answered, and whether it had failed.
+    fn note_answer<R: Wait>(&self, rt: &R) -> bool {
+        let mut standing = self.standing.lock(rt);
+        let had_failed = *standing != Standing::Fit;
+        standing.note_answer();
+        had_failed
+    }
+}
+
 /// The servers, and what is known of them.
 #[derive(Drop)]
 pub struct Board<R> {
@@ -58,6 +69,7 @@ pub struct Board<R> {
     pub(crate) shelf: Option<Mutex<KeptAnswers>>,
     pub(crate) keeps: u64,
     pub(crate) counts: Counts,
+    pub(crate) standbys: Standbys,
     /// How many numbers were drawn, from a random one on, in steps that are odd.
     pub(crate) drawn: AtomicU64,
     /// Where lines of visits go, where any are written.
@@ -189,6 +201,7 @@ impl<R: Wait + Clock> Board<R> {
             };
             match next_step(self.alloc, question, Ok(&reply), self.chance())? {
                 Next::Answer(answer) => {
+                    let answer = self.site.bound(answer);
                     self.counts.kept.fetch_add(1, Ordering::Relaxed);
                     if let Some(path) = path {
                         self.keep_way(path, message, reply, &answer);
@@ -324,7 +337,9 @@ impl<R: Wait + Clock> Board<R> {
             ask.miss(Miss::Elsewhere);
             return self.forward(ask);
         }
-        if self.routes.len() > 1 && is_holder(code) {
+        if self.is_standby(place) {
+            self.note_standby(place);
+        } else if self.routes.len() > 1 && is_holder(code) {
             let prefix = ask.question.name.prefix();
             self.holders.lock(&self.rt).note(prefix, place, self.now());
         }
@@ -349,7 +364,9 @@ impl<R: Wait + Clock> Board<R> {
         let mark = self.mark(&ask.question.name);
         match server.ask(&ask.message) {
             Ok(reply) => {
-                post.standing.lock(&self.rt).note_answer();
+                if post.note_answer(&self.rt) {
+                    self.note_return(place);
+                }
                 self.take_reply(place, ask, &reply, mark);
             }
             Err(NoAnswer::Memory) => ask.refuse(),

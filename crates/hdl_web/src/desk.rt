@@ -112,7 +112,8 @@ impl<R: Wait + Clock + Copy + Drop> Desk<R> {
 
     /// What becomes of a request that comes without a key.
     fn take(&self, sent: SentRequest<'_>) -> Result<Turn, AllocError> {
-        match begin(self.alloc, sent.method, sent.path, sent.query)? {
+        let own = self.board.site.address();
+        match begin(self.alloc, own, sent.method, sent.path, sent.query)? {
             Next::Answer(answer) => Ok(Turn::Made(Ok(answer))),
             Next::Ask(question) => self.board.take(question, plain_path(sent)),
         }

@@ -27,6 +27,7 @@ mod response;
 mod servers;
 mod serving;
 mod staff;
+mod standbys;
 mod text;
 mod visitors;
 mod ways;
@@ -35,7 +36,7 @@ mod worker;
 
 use event_loop::listen_at;
 use hdl_copied::{CopiedHandles, read_copy};
-use hdl_proxy::Site;
+use hdl_proxy::{Site, is_site_address};
 use hdl_routes::{Route, read_route};
 use log::Log;
 use rand::make_rng;
@@ -44,25 +45,60 @@ use serving::{Listening, serve_http};
 use staff::{Crew, Plan, Staff};
 use std::alloc::AllocError;
 use std::fs::OpenOptions;
-use std::io;
+use std::io::{self, ErrorKind};
 use std::net::SocketAddr;
 use std::process::ExitCode;
 use std::sync::Arc;
 use std::time::Duration;
 use words::{Invocation, ProxyWords, read_words};
 
-/// The servers that the words name. None if a word names none, which is reported, or if memory was refused.
-fn routes(rt: &HostRuntime, words: &ProxyWords) -> Option<Vec<Route>> {
-    let mut routes = Vec::new(rt.alloc());
-    for (place, word) in words.servers.iter().enumerate() {
-        match read_route(rt.alloc(), place, word) {
-            Ok(route) => routes.push(route).ok()?,
+/// Whether an address is a host, a colon and the number of a port. An IPv6 address is in brackets.
+fn has_port(address: &str) -> bool {
+    match address.rsplit_once(':') {
+        Some((host, port)) => {
+            let is_bracketed = host.starts_with('[') && host.ends_with(']');
+            let is_host = !host.is_empty() && (is_bracketed || !host.contains(':'));
+            is_host && port.parse::<u16>().is_ok()
+        }
+        None => false,
+    }
+}
+
+/// Adds the servers that these words name, which are standbys or not. None if a word names none, which is reported, or if memory was refused.
+fn add_routes(
+    rt: &HostRuntime,
+    routes: &mut Vec<Route>,
+    words: &[String],
+    are_standbys: bool,
+) -> Option<()> {
+    let option = if are_standbys {
+        "--standby"
+    } else {
+        "--server"
+    };
+    for word in words {
+        match read_route(rt.alloc(), routes.len(), are_standbys, word) {
+            Ok(route) if has_port(&route.address) => routes.push(route).ok()?,
+            Ok(_) => {
+                let _ = eprintln!(rt;
+                    "error: {option} {word}: write HOST:PORT, such as 127.0.0.1:2641 or [::1]:2641"
+                );
+                return None;
+            }
             Err(fault) => {
-                let _ = eprintln!(rt; "error: --server {word}: {fault}");
+                let _ = eprintln!(rt; "error: {option} {word}: {fault}");
                 return None;
             }
         }
     }
+    Some(())
+}
+
+/// The servers that the words name. None if a word names none, which is reported, or if memory was refused.
+fn routes(rt: &HostRuntime, words: &ProxyWords) -> Option<Vec<Route>> {
+    let mut routes = Vec::new(rt.alloc());
+    add_routes(rt, &mut routes, &words.servers, false)?;
+    add_routes(rt, &mut routes, &words.standbys, true)?;
     Some(routes)
 }
 
@@ -153,11 +189,23 @@ fn hire(
 
 /// The site of all pages.
 fn site(rt: &HostRuntime, words: &ProxyWords) -> Result<Site, AllocError> {
-    let contact = match &words.contact {
-        Some(contact) => Some(contact.as_str()),
-        None => None,
-    };
-    Site::new(rt.alloc(), &words.site, contact)
+    let contact = words.contact.as_ref().map(|contact| contact.as_str());
+    let address = words.address.as_ref().map(|address| address.as_str());
+    let redirects = u32::try_from(words.redirects).unwrap_or(0);
+    Site::new(rt.alloc(), &words.site, contact, address, redirects)
+}
+
+/// Whether the address that the words name, if they name one, is that of a site. If it isn't, that is reported.
+fn is_address_fit(rt: &HostRuntime, words: &ProxyWords) -> bool {
+    match &words.address {
+        Some(address) if !is_site_address(address.as_str()) => {
+            let _ = eprintln!(rt;
+                "error: --address {address}: write http:// or https://, the host and a slash, such as https://handles.example.org/"
+            );
+            false
+        }
+        _ => true,
+    }
 }
 
 /// The log of visits, if there is one.
@@ -190,6 +238,16 @@ fn listen(
     Ok(())
 }
 
+/// What to do if an address can't be listened at, where that is known.
+fn advice_on(kind: ErrorKind) -> &'static str {
+    match kind {
+        ErrorKind::AddrNotAvailable => ": name an address of this machine, see `ip addr`",
+        ErrorKind::AddrInUse => ": end the program that uses it, or choose another port",
+        ErrorKind::PermissionDenied => ": choose a port from 1024 on",
+        _ => "",
+    }
+}
+
 /// What listens at the addresses that the words name. None if one of them can't be had, which is reported.
 fn listening(rt: &HostRuntime, words: &ProxyWords) -> Option<Listening> {
     let mut listening = Listening {
@@ -198,7 +256,8 @@ fn listening(rt: &HostRuntime, words: &ProxyWords) -> Option<Listening> {
     };
     for word in &words.listen {
         if let Err(fault) = listen(rt, words, word, &mut listening) {
-            let _ = eprintln!(rt; "hdl: --listen {word}: {fault}");
+            let advice = advice_on(fault.kind());
+            let _ = eprintln!(rt; "hdl: --listen {word}: {fault}{advice}");
             return None;
         }
     }
@@ -210,6 +269,9 @@ fn main(rt: HostRuntime) -> ExitCode {
         Invocation::Proxy(words) => words,
         Invocation::Ended(status) => return ExitCode::from(status),
     };
+    if !is_address_fit(&rt, &words) {
+        return ExitCode::from(2);
+    }
     let Some(routes) = routes(&rt, &words) else {
         return ExitCode::from(2);
     };

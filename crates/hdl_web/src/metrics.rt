@@ -180,6 +180,11 @@ impl<R: Wait + Clock> Board<R> {
             "# HELP hdl_proxy_info The program's version.\n# TYPE hdl_proxy_info gauge\nhdl_proxy_info{{version=\"{VERSION}\"}} 1"
         )?;
         self.counts.put(&self.rt, &mut text)?;
+        let answers = self.standbys.answers.load(Ordering::Relaxed);
+        writeln!(
+            text,
+            "# HELP hdl_proxy_standby_answers_total Answers of standbys.\n# TYPE hdl_proxy_standby_answers_total counter\nhdl_proxy_standby_answers_total {answers}"
+        )?;
         for metric in SERVER_METRICS {
             self.put_servers(&mut text, metric)?;
         }

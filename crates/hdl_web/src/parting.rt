@@ -3,14 +3,23 @@
 use crate::board::Board;
 use futures::Future;
 use futures::task::{Context, Poll};
+use std::alloc::Global;
 use std::sync::{Arc, Wait};
 use std::time::Clock;
 
-/// The status that `hyper` answered a request with whose head couldn't be read, if it refused one so. One that is too long it answers with 414 or 431, and
-/// doesn't tell which.
-fn refusal_of(fault: &hyper::Error) -> Option<u16> {
+/// What `hyper` says of a first line that is too long. Nothing else tells it from a field that is.
+const LONG_LINE: &str = "request line is too long";
+
+/// The status that `hyper` answered a request with whose head is too long. None if memory was refused.
+fn status_of_long(alloc: Global, fault: &hyper::Error) -> Option<u16> {
+    let said = format!(in alloc; "{fault}").ok()?;
+    Some(if said.as_str() == LONG_LINE { 414 } else { 431 })
+}
+
+/// The status that `hyper` answered a request with whose head couldn't be read, if it refused one so. None also if memory was refused.
+fn refusal_of(alloc: Global, fault: &hyper::Error) -> Option<u16> {
     if fault.is_parse_too_large() {
-        Some(431)
+        status_of_long(alloc, fault)
     } else if fault.is_parse() {
         Some(400)
     } else {
@@ -47,7 +56,7 @@ where
     fn poll(&mut self, cx: &mut Context<'_>) -> Poll<()> {
         match self.inner.poll(cx) {
             Poll::Ready(Err(fault)) => {
-                if let Some(status) = refusal_of(&fault) {
+                if let Some(status) = refusal_of(self.board.alloc, &fault) {
                     self.board.note_refusal(status);
                 }
                 Poll::Ready(())

@@ -11,8 +11,8 @@ use http::StatusCode;
 use http::header::{
     ACCESS_CONTROL_ALLOW_HEADERS, ACCESS_CONTROL_ALLOW_METHODS, ACCESS_CONTROL_ALLOW_ORIGIN,
     ACCESS_CONTROL_MAX_AGE, ALLOW, CACHE_CONTROL, CONTENT_SECURITY_POLICY, CONTENT_TYPE, ETAG,
-    HeaderMap, HeaderName, HeaderValue, LOCATION, REFERRER_POLICY, RETRY_AFTER, WWW_AUTHENTICATE,
-    X_CONTENT_TYPE_OPTIONS,
+    HeaderMap, HeaderName, HeaderValue, LINK, LOCATION, REFERRER_POLICY, RETRY_AFTER,
+    WWW_AUTHENTICATE, X_CONTENT_TYPE_OPTIONS,
 };
 use http::response::{Parts, Response};
 use http_body_util::Full;
@@ -196,6 +196,10 @@ pub(crate) fn headers_of(
     put_keeping(alloc, &mut headers, answer.keeping)?;
     if let Some(tag) = &answer.tag {
         put_text(alloc, &mut headers, ETAG, tag.as_str())?;
+    }
+    if let Some(address) = &answer.about {
+        let link = format!(in alloc; "<{address}>; rel=\"cite-as\"")?;
+        put_text(alloc, &mut headers, LINK, link.as_str())?;
     }
     if let Some(location) = &answer.location {
         put_text(alloc, &mut headers, LOCATION, location.as_str())?;

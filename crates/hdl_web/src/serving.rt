@@ -8,9 +8,10 @@ use crate::parting::Parting;
 use crate::patient::Patient;
 use crate::servers::{Clerk, Resolver};
 use crate::staff::{Staff, start_asking};
+use crate::standbys::{Notice, write_notices};
 use crate::visitors::{ConnectionHandler, Visitors};
 use bytes::Bytes;
-use crossbeam_channel::{Sender, unbounded};
+use crossbeam_channel::{Receiver, Sender, unbounded};
 use http_body_util::Full;
 use hyper::rt::{Timer, TokioTimer};
 use hyper::server::conn::http1::{Builder, Connection};
@@ -166,6 +167,16 @@ where
     Ok(Some(visits))
 }
 
+/// Starts the thread that writes the lines about standbys.
+fn start_notices<R>(rt: &R, board: &Arc<Board<R>>, come: Receiver<Notice>) -> io::Result<()>
+where
+    R: Wait + Threads + Clock + Eprint + AllocGlobal + Copy + Send + Sync + Drop + 'static,
+{
+    let theirs = Arc::try_clone(board)?;
+    drop(thread::spawn(rt, move || write_notices(&theirs, come))?);
+    Ok(())
+}
+
 /// What listens: event loops, and the addresses of their listeners.
 #[derive(Drop)]
 pub struct Listening {
@@ -200,7 +211,9 @@ where
 {
     let Listening { addresses, loops } = listening;
     let visits = start_log(rt, log)?;
-    let board = start_asking(rt, staff, visits)?;
+    let (notices, come) = unbounded(rt.alloc())?;
+    let board = start_asking(rt, staff, visits, notices)?;
+    start_notices(rt, &board, come)?;
     say_addresses(output, &addresses)?;
     serve_loops(rt, loops, board)
 }

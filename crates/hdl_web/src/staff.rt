@@ -6,6 +6,7 @@ use crate::holders::Holders;
 use crate::log::Visit;
 use crate::metrics::Counts;
 use crate::servers::{Clerk, Resolver};
+use crate::standbys::{Notice, Standbys};
 use crate::ways::KeptAnswers;
 use crate::worker::{Errand, work, work_on_orders};
 use crossbeam_channel::{Receiver, Sender, unbounded};
@@ -150,12 +151,13 @@ fn token_key<R: RandomSource>(rt: &R) -> io::Result<TokenKey> {
     Ok(TokenKey { inner, outer })
 }
 
-/// The board with these posts; lines of visits go to `visits`.
+/// The board with these posts; lines of visits go to `visits`, those about standbys to `notices`.
 fn board_of<R>(
     rt: &R,
     plan: Plan,
     posts: Vec<ServerRecord>,
     visits: Option<Sender<Visit>>,
+    notices: Sender<Notice>,
 ) -> io::Result<Arc<Board<R>>>
 where
     R: Clock + RandomSource + AllocGlobal + Copy + Drop,
@@ -174,6 +176,7 @@ where
         shelf: shelf(rt, plan.keeps)?,
         keeps: plan.keeps,
         counts: Counts::new(alloc),
+        standbys: Standbys::new(notices),
         drawn: AtomicU64::new(random(rt)?),
         site: Arc::new(alloc, plan.site)?,
         visits,
@@ -195,11 +198,12 @@ where
     Ok(())
 }
 
-/// Starts a thread for each who asks, and gives where questions and orders go; lines of visits go to `visits`.
+/// Starts a thread for each who asks, and gives where questions and orders go; lines of visits go to `visits`, those about standbys to `notices`.
 pub(crate) fn start_asking<R, S, C>(
     rt: &R,
     staff: Staff<S, C>,
     visits: Option<Sender<Visit>>,
+    notices: Sender<Notice>,
 ) -> io::Result<Arc<Board<R>>>
 where
     R: Wait + Threads + Clock + RandomSource + AllocGlobal + Copy + Send + Sync + Drop + 'static,
@@ -208,7 +212,7 @@ where
 {
     let Staff { plan, crews } = staff;
     let (posts, crews) = all_posted(rt.alloc(), crews, plan.writes)?;
-    let board = board_of(rt, plan, posts, visits)?;
+    let board = board_of(rt, plan, posts, visits, notices)?;
     start_crews(rt, &board, crews)?;
     Ok(board)
 }

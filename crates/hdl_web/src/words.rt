@@ -13,6 +13,9 @@ const LISTEN: &str = "127.0.0.1:8080";
 /// What the site of the pages is called, where it has no other name.
 const SITE: &str = "Handles";
 
+/// For how many seconds a browser keeps a redirect at most, where no other number is named.
+const REDIRECTS: u64 = 300;
+
 /// How many threads serve the connections of an address, where no other number is named.
 const THREADS: u64 = 1;
 
@@ -31,6 +34,8 @@ pub struct ProxyWords {
     pub threads: u64,
     /// The servers to ask, in this order.
     pub servers: Vec<String>,
+    /// The servers to ask if no other one answers, in this order.
+    pub standbys: Vec<String>,
     /// How many questions it asks each at once: 1 to 64.
     pub askers: u64,
     /// How many seconds an answer may take: 1 to 60.
@@ -39,6 +44,10 @@ pub struct ProxyWords {
     pub site: String,
     /// The contact for readers' questions.
     pub contact: Option<String>,
+    /// The address at which its handles are cited.
+    pub address: Option<String>,
+    /// For how many seconds browsers keep a redirect at most: up to a day.
+    pub redirects: u64,
     /// For how many seconds an answer is kept at most; 0 keeps none.
     pub cache: u64,
     /// Where a line of each visit is written, if anywhere: a file's path, or `-`.
@@ -101,6 +110,13 @@ fn asking_args<'a>(alloc: Global, command: Command<'a>) -> Result<Command<'a>, A
         )?
         .arg(option(
             alloc,
+            "standby",
+            "HOST:PORT[=PREFIX,..]",
+            "A server over a copy, asked if no other one answers; it gets no changes; may be repeated",
+        )
+        .action(ArgAction::Append))?
+        .arg(option(
+            alloc,
             "askers",
             "N",
             "Questions that each server is asked at once; 2 by default; each may hold a lane",
@@ -129,6 +145,12 @@ fn site_args<'a>(alloc: Global, command: Command<'a>) -> Result<Command<'a>, All
             "contact",
             "ADDRESS",
             "A mail address or URL for readers' questions, at the foot of every page",
+        ))?
+        .arg(option(
+            alloc,
+            "address",
+            "URL",
+            "The site's own address, such as https://handles.example.org/, for links by which pages are cited",
         ))
 }
 
@@ -142,6 +164,13 @@ fn keeping_args<'a>(alloc: Global, command: Command<'a>) -> Result<Command<'a>, 
             "Caches answers for at most this long, and within their TTL; no cache by default",
         )
         .value_parser(value_parser!(u64).range(1..86401)))?
+        .arg(option(
+            alloc,
+            "browser-cache",
+            "SECONDS",
+            "How long browsers keep a redirect at most; 300 by default; with 0 they keep none",
+        )
+        .value_parser(value_parser!(u64).range(0..86401)))?
         .arg(option(
             alloc,
             "log",
@@ -202,10 +231,13 @@ fn proxy_words(alloc: Global, found: &ArgMatches<'_>) -> Result<ProxyWords, Allo
         listen: texts(alloc, found.get_strs("listen").unwrap_or(&[LISTEN]))?,
         threads: found.get_one::<u64>("threads").unwrap_or(THREADS),
         servers: texts(alloc, found.get_strs("server").unwrap_or(&[]))?,
+        standbys: texts(alloc, found.get_strs("standby").unwrap_or(&[]))?,
         askers: found.get_one::<u64>("askers").unwrap_or(ASKERS),
         timeout: found.get_one::<u64>("timeout").unwrap_or(TIMEOUT),
         site: String::from_str(alloc, found.get_str("site").unwrap_or(SITE))?,
         contact: text(alloc, found.get_str("contact"))?,
+        address: text(alloc, found.get_str("address"))?,
+        redirects: found.get_one::<u64>("browser-cache").unwrap_or(REDIRECTS),
         cache: found.get_one::<u64>("cache").unwrap_or(0),
         log: text(alloc, found.get_str("log"))?,
         writes: found.get_flag("writes"),

@@ -6,7 +6,7 @@ use crate::servers::{Clerk, Resolver};
 use bytes::Bytes;
 use crossbeam_channel::Receiver;
 use futures::channel::oneshot;
-use hdl_forms::{FilledForm, result_page};
+use hdl_forms::{FilledForm, carry_form, result_page};
 use hdl_writes::{Order, carry_out};
 use std::alloc::Global;
 use std::sync::Wait;
@@ -27,6 +27,20 @@ pub(crate) fn as_page(alloc: Global, form: Option<FilledForm>, made: Made) -> Ma
     match form {
         Some(form) => result_page(alloc, &form, &made?),
         None => made,
+    }
+}
+
+/// What comes of an order: a page where it came by a form, whose value must still be as the form showed it.
+fn carried<C: Clerk>(
+    alloc: Global,
+    clerk: &mut C,
+    order: &Order,
+    body: &[u8],
+    form: Option<FilledForm>,
+) -> Made {
+    match form {
+        Some(form) => carry_form(alloc, clerk, order, body, form),
+        None => carry_out(alloc, clerk, order, body),
     }
 }
 
@@ -57,10 +71,10 @@ pub(crate) fn work_on_orders<R: Wait + Clock, C: Clerk>(
             answer,
         } = errand;
         clerk.turn_to(turn);
-        let made = carry_out(board.alloc, &mut clerk, &order, &body);
+        let made = carried(board.alloc, &mut clerk, &order, &body, form);
         if order.changes() {
             board.forget(&order.name);
         }
-        let _ = answer.send(as_page(board.alloc, form, made));
+        let _ = answer.send(made);
     }
 }

@@ -1,5 +1,6 @@
 pub mod Items
 pub mod Losses
 pub mod Ones
+pub mod Presents
 pub mod RoundTrip
 pub mod Sendings

@@ -6,6 +6,7 @@ pub mod Exchange
 pub mod Laws
 pub mod Orders
 pub mod Plan
+pub mod Present
 pub mod Record
 pub mod ChangeAnswers
 pub mod Sending

@@ -18,8 +18,7 @@
 //!
 //! ```rust
 //! // crates/hdl_web/src/worker.rt
-//! clerk.turn_to(turn);
-//! let made = carry_out(board.alloc, &mut clerk, &order, &body);
+//! None => carry_out(alloc, clerk, order, body),
 //! ```
 #![tactic(auto)]
 
@@ -37,6 +36,7 @@ mod listing;
 mod mint;
 mod order;
 mod plan;
+mod present;
 mod record;
 mod service;
 mod shapes;
@@ -50,6 +50,7 @@ pub use fault::{EntryFault, RecordFault};
 pub use laws::{nothing_is_lost, written_is_read};
 pub use order::{Act, Begun, Order, SentRequest, Window, WriteMode, begin_with_key};
 pub use plan::{merging, replacing};
+pub use present::value_there;
 pub use record::read_record;
 pub use service::{ChangeServer, NoReply};
 pub use suffix::{SUFFIX_LEN, with_suffix};

@@ -1,26 +1,21 @@
 //! An import, asked of a server.
 
-ghost use Rattle.std.specs.Prelude.{◌≡◌, ◌⊎◌, ◌++◌, ◌∷◌, []};
-ghost use Rattle.hdl_msg.specs.declared.codes.ResponseCode.TheVariants.{Success};
-ghost use Rattle.hdl_msg.specs.Codes.{response_number};
-
 use crate::batches::is_watched;
 use crate::fault::WordFault;
 use crate::imports::columns::Columns;
-use crate::imports::counts::{Counts, print_code};
-use crate::imports::reading::question;
+use crate::imports::counts::Counts;
+use crate::imports::creating::{Creations, create_all};
 use crate::imports::row::DAY;
-use crate::imports::rows::{Faults, Form, HandleRows, Part};
+use crate::imports::rows::{Form, HandleRows, Part};
 use crate::imports::update::Kept;
 use crate::imports::updating::{Manner, preview_part, update_part};
 use crate::key::{key_of, read_key_reference};
 use crate::telling::tell_fault;
-use hdl_client::{Batch, ClientFault, Key, Outcomes, Session, Task, Transport, connect};
-use hdl_lines::{number_in, printed_octets, shown_line};
-use hdl_msg::{Body, ContentView, ReplyView, ResponseCode, Values, read_request};
+use hdl_client::{Batch, ClientFault, Key, Session, Task, Transport, connect};
+use hdl_lines::number_in;
 use hdl_value::Wire;
 use std::alloc::{AllocError, Global};
-use std::{fs, io, mem};
+use std::{fs, io};
 use thiserror::Error;
 
 /// What can be done where the connection failed.
@@ -81,170 +76,6 @@ impl From<AllocError> for ImportFault {
     fn from(_: AllocError) -> ImportFault {
         ImportFault::Client(ClientFault::Memory)
     }
-}
-
-/// What comes of the requests that create handles.
-#[derive(Drop)]
-struct Creations<'r> {
-    rt: &'r HostRuntime,
-    counts: Counts,
-    /// The lines of those that are there already.
-    found: Vec<usize>,
-}
-
-impl Faults for Creations<'_> {
-    fn note_fault(&mut self, line: usize, handle: &[u8], fault: WordFault) {
-        let alloc = self.rt.alloc();
-        // without memory for it the handle is missing from the line
-        let handle = printed_octets(alloc, handle).unwrap_or_else(|_| String::new(alloc));
-        let _ = println!(self.rt; "line {line}: {handle}: {fault}");
-    }
-
-    fn left_out(&mut self) {
-        self.counts.fail();
-    }
-}
-
-impl Outcomes for Creations<'_> {
-    // None has failed only if none had, and this one succeeded or its handle is looked at once more.
-    ghost notes = { λ old task code new. new.counts.failed ≡ 0 → (old.counts.failed ≡ 0) × ((code ≡ response_number Success) ⊎ (new.found.items ≡ old.found.items ++ task.line ∷ [])) };
-
-    fn note_reply(&mut self, task: &Task, code: u32, _reply: &ReplyView<'_>) {
-        if code == ResponseCode::Success.number() {
-            self.counts.created = self.counts.created.saturating_add(1);
-            return;
-        }
-        if code == ResponseCode::HandleAlreadyExists.number()
-            && self.found.push(task.line).is_ok()
-        {
-            return;
-        }
-        if code == ResponseCode::AuthenticationFailed.number()
-            || code == ResponseCode::UnableToAuthenticate.number()
-        {
-            self.counts.is_key_refused = true;
-        }
-        self.counts.fail();
-        print_code(self.rt, task, code, "");
-    }
-}
-
-/// The lines of values, which say them but for their timestamps.
-fn lines_of(alloc: Global, values: Values<'_>) -> Result<Vec<Vec<u8>>, AllocError> {
-    let mut lines = Vec::new(alloc);
-    for value in values {
-        match lines.push(shown_line(alloc, &value, true)?) {
-            Ok(()) => {}
-            Err(_) => return Err(AllocError),
-        }
-    }
-    Ok(lines)
-}
-
-/// Whether a reply shows just the values of this task, whenever they were written.
-fn shows_just(alloc: Global, reply: &ReplyView<'_>, creation: &Task) -> Result<bool, AllocError> {
-    let ContentView::Values { values: there, .. } = reply.content else {
-        return Ok(false);
-    };
-    let Ok(request) = read_request(creation.request.wire(), creation.request.octets()) else {
-        return Ok(false);
-    };
-    let Body::Create { values: meant, .. } = request.body() else {
-        return Ok(false);
-    };
-    let there = lines_of(alloc, there)?;
-    let meant = lines_of(alloc, *meant)?;
-    // no two of a handle's values have one index
-    Ok(there.len() == meant.len() && there.iter().all(|line| meant.contains(line)))
-}
-
-/// What comes of the questions for handles that are there already.
-#[derive(Drop)]
-struct Comparisons<'r> {
-    rt: &'r HostRuntime,
-    counts: Counts,
-    /// The tasks that were to create them.
-    tasks: &'r [Task],
-}
-
-impl Outcomes for Comparisons<'_> {
-    ghost notes = { λ old _ _ new. new.counts.failed ≡ 0 → old.counts.failed ≡ 0 };
-
-    fn note_reply(&mut self, task: &Task, code: u32, reply: &ReplyView<'_>) {
-        let creation = self.tasks.iter().find(|other| other.line == task.line);
-        let is_same = match creation {
-            Some(creation) => shows_just(self.rt.alloc(), reply, creation),
-            None => Ok(false),
-        };
-        if is_same.unwrap_or(false) {
-            self.counts.there = self.counts.there.saturating_add(1);
-            return;
-        }
-        self.counts.fail();
-        if code == ResponseCode::Success.number() {
-            let found = ResponseCode::HandleAlreadyExists.number();
-            print_code(self.rt, task, found, ", with other values");
-        } else {
-            print_code(self.rt, task, code, "");
-        }
-    }
-}
-
-/// Those that ask for the handles of these lines.
-fn questions(alloc: Global, tasks: &[Task], lines: &[usize]) -> Result<Vec<Task>, ClientFault> {
-    let mut questions = Vec::new(alloc);
-    for task in tasks {
-        if lines.contains(&task.line) {
-            questions.push(question(alloc, task, Vec::new(alloc))?)?;
-        }
-    }
-    Ok(questions)
-}
-
-/// Asks for what is there already, in the place of what was to be created.
-fn compare<S: Transport>(
-    rt: &HostRuntime,
-    session: &mut Session<S>,
-    batch: &mut Batch,
-    counts: &mut Counts,
-    found: &[usize],
-) -> Result<(), ClientFault> {
-    if found.is_empty() {
-        return Ok(());
-    }
-    let asked = questions(rt.alloc(), &batch.tasks, found)?;
-    let tasks = mem::replace(&mut batch.tasks, asked);
-    let mut comparisons = Comparisons {
-        rt,
-        counts: *counts,
-        tasks: &tasks,
-    };
-    let ended = session.run_batch(batch, &mut comparisons);
-    *counts = comparisons.counts;
-    ended
-}
-
-/// Creates the handles of the batch's tasks, and compares those that are there already.
-fn create_all<S: Transport>(
-    rt: &HostRuntime,
-    session: &mut Session<S>,
-    batch: &mut Batch,
-    counts: &mut Counts,
-) -> Result<(), ClientFault> {
-    let mut creations = Creations {
-        rt,
-        counts: *counts,
-        found: Vec::new(rt.alloc()),
-    };
-    let ended = session.run_batch(batch, &mut creations);
-    let Creations {
-        counts: so_far,
-        found,
-        ..
-    } = creations;
-    *counts = so_far;
-    ended?;
-    compare(rt, session, batch, counts, &found)
 }
 
 /// The next part of the file; its faults are told and counted.

@@ -96,9 +96,10 @@ impl Outcomes for Readings<'_> {
     }
 }
 
-/// The task that asks for values of a handle, in the place of the one that was to create it.
+/// The task that asks for values of a handle, in the place of the one that was to create it, at the same line.
 pub(crate) fn question(alloc: Global, task: &Task, indexes: Vec<u32>) -> Result<Task, ClientFault>
-    ensures { IfOk result IsReading }
+    ensures reading { IfOk result IsReading }
+    ensures line { IfOk result (λ asked. asked.line ≡ task.now.line) }
 {
     let body = RequestBody::Resolution {
         handle: Octets::new(Vec::from_slice(alloc, task.request.handle())?),

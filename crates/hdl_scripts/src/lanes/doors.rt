@@ -1,5 +1,7 @@
 //! Workers at doors in memory, line by line.
 
+ghost use Rattle.std.specs.Prelude.{◌≡◌, []};
+
 use crate::lanes::beside::{Plan, Ran, count_used, run_packets, run_stream, source};
 use crate::lanes::pair::pair_of;
 use crate::lanes::recorder::record;
@@ -8,7 +10,7 @@ use crate::lanes::words::{
     bad, number, numbers, octets, short, size, tell_item, tell_octets, tell_outcome, word_of,
 };
 use hdl_replay::parts_of;
-use hdl_serve::{Datagram, Door, MemoryDoor, MemoryPackets, Packets};
+use hdl_serve::{Datagram, Door, MemoryDoor, MemoryNonces, MemoryPackets, Packets};
 use std::alloc::{AllocError, Global};
 use std::collections::VecDeque;
 use std::io::{self, Write};
@@ -113,58 +115,73 @@ fn tell_sent(alloc: Global, packets: &MemoryPackets, told: &mut Vec<u8>) -> io::
     Ok(())
 }
 
-/// Runs a stream worker on a lane of its own, and tells what came of it.
-fn work_stream<S: Serving + Drop>(
+/// Runs a stream worker at this door on a lane of its own, and tells what came of it.
+fn stream_at<S: Serving + Drop>(
     alloc: Global,
     serving: S,
-    coming: VecDeque<Vec<u8>>,
+    door: &mut MemoryDoor,
+    nonces: &mut MemoryNonces,
     plan: Plan,
     told: &mut Vec<u8>,
-) -> io::Result<S> {
-    let mut nonces = source(alloc)?;
+) -> io::Result<S>
+    requires first { door.old.left.items ≡ [] }
+{
     let pair = pair_of(alloc, plan.lane, plan.capacity)?;
-    let mut door = MemoryDoor::new(alloc, coming, plan.most, plan.fails);
-    let Some(ran) = run_stream::<Brand, S>(alloc, serving, pair, &mut door, &mut nonces, plan)
-    else {
+    let Some(ran) = run_stream::<Brand, S>(alloc, serving, pair, door, nonces, plan) else {
         return Err(bad());
     };
-    tell_ran(
-        alloc,
-        plan.lane,
-        door.faults(),
-        count_used(&nonces),
-        &ran,
-        told,
-    )?;
-    tell_left(alloc, &door, told)?;
+    let frames = count_used(nonces);
+    tell_ran(alloc, plan.lane, door.faults(), frames, &ran, told)?;
+    tell_left(alloc, door, told)?;
     Ok(ran.serving)
 }
 
-/// Runs a datagram worker on a lane of its own, and tells what came of it.
-fn work_packets<S: Serving + Drop>(
+/// Runs a stream worker at a door to which these peers come.
+fn work_stream<S: Serving + Drop>(
     alloc: Global,
     serving: S,
-    coming: VecDeque<Datagram>,
+    peers: &[Vec<u8>],
     plan: Plan,
     told: &mut Vec<u8>,
 ) -> io::Result<S> {
     let mut nonces = source(alloc)?;
+    let mut door = MemoryDoor::new(alloc, peers_of(alloc, peers)?, plan.most, plan.fails);
+    stream_at(alloc, serving, &mut door, &mut nonces, plan, told)
+}
+
+/// Runs a datagram worker at these packets on a lane of its own, and tells what came of it.
+fn packets_at<S: Serving + Drop>(
+    alloc: Global,
+    serving: S,
+    packets: &mut MemoryPackets,
+    nonces: &mut MemoryNonces,
+    plan: Plan,
+    told: &mut Vec<u8>,
+) -> io::Result<S>
+    requires first { (packets.old.received.items ≡ []) × (packets.old.sent.items ≡ []) }
+{
     let pair = pair_of(alloc, plan.lane, plan.capacity)?;
-    let mut packets = MemoryPackets::new(alloc, coming, plan.fails, plan.most);
-    let Some(ran) = run_packets::<Brand, S>(alloc, serving, pair, &mut packets, &mut nonces, plan)
-    else {
+    let Some(ran) = run_packets::<Brand, S>(alloc, serving, pair, packets, nonces, plan) else {
         return Err(bad());
     };
-    tell_ran(
-        alloc,
-        plan.lane,
-        packets.faults(),
-        count_used(&nonces),
-        &ran,
-        told,
-    )?;
-    tell_sent(alloc, &packets, told)?;
+    let frames = count_used(nonces);
+    tell_ran(alloc, plan.lane, packets.faults(), frames, &ran, told)?;
+    tell_sent(alloc, packets, told)?;
     Ok(ran.serving)
+}
+
+/// Runs a datagram worker to which these datagrams come.
+fn work_packets<S: Serving + Drop>(
+    alloc: Global,
+    serving: S,
+    datagrams: &[Datagram],
+    plan: Plan,
+    told: &mut Vec<u8>,
+) -> io::Result<S> {
+    let mut nonces = source(alloc)?;
+    let coming = datagrams_of(alloc, datagrams)?;
+    let mut packets = MemoryPackets::new(alloc, coming, plan.fails, plan.most);
+    packets_at(alloc, serving, &mut packets, &mut nonces, plan, told)
 }
 
 /// Runs a worker by what serves it.
@@ -175,15 +192,13 @@ fn work_beside<S: Serving + Drop>(
     told: &mut Vec<u8>,
 ) -> io::Result<()> {
     let alloc = doors.alloc;
-    let datagrams = datagrams_of(alloc, &doors.datagrams)?;
-    let peers = peers_of(alloc, &doors.peers)?;
     let Some(serving) = doors.serving.take() else {
         return Err(bad());
     };
     let serving = if is_stream {
-        work_stream(alloc, serving, peers, plan, told)?
+        work_stream(alloc, serving, &doors.peers, plan, told)?
     } else {
-        work_packets(alloc, serving, datagrams, plan, told)?
+        work_packets(alloc, serving, &doors.datagrams, plan, told)?
     };
     doors.serving = Some(serving);
     Ok(())

@@ -157,6 +157,21 @@ fn tell_recorded<D: Door>(
     writeln!(told)
 }
 
+/// Runs a stream worker at this door beside this recorder, and tells what came of it.
+fn record_at<D: Door>(
+    alloc: Global,
+    door: &mut Counting<D>,
+    recorder: &mut Recorder,
+    nonces: &mut MemoryNonces,
+    plan: Plan,
+    told: &mut Vec<u8>,
+) -> io::Result<()> {
+    let pair = pair_of(alloc, plan.lane, plan.capacity)?;
+    let why = run_recorded(alloc, pair, door, recorder, nonces, plan.turns);
+    recorder.answer_all(plan.after)?;
+    tell_recorded(why, door, &recorder.put, told)
+}
+
 /// Runs a stream worker whose events are written down and answered by so many octets, at most so many at a time.
 pub fn record(
     alloc: Global,
@@ -167,7 +182,6 @@ pub fn record(
     told: &mut Vec<u8>,
 ) -> io::Result<()> {
     let mut nonces = source(alloc)?;
-    let pair = pair_of(alloc, plan.lane, plan.capacity)?;
     let mut recorder = Recorder {
         alloc,
         ends: Vec::new(alloc),
@@ -180,14 +194,5 @@ pub fn record(
         writes: 0,
         longest: 0,
     };
-    let why = run_recorded(
-        alloc,
-        pair,
-        &mut door,
-        &mut recorder,
-        &mut nonces,
-        plan.turns,
-    );
-    recorder.answer_all(plan.after)?;
-    tell_recorded(why, &door, &recorder.put, told)
+    record_at(alloc, &mut door, &mut recorder, &mut nonces, plan, told)
 }

@@ -1,4 +1,4 @@
-//! What serves lanes' ends, by whoever calls. All but [`Held`] is generic over it: no other function owns a service.
+//! What serves lanes' ends, by whoever calls.
 
 ghost use Rattle.std.specs.Prelude.{All, List};
 ghost use Rattle.hdl_workers.specs.declared.ends.LaneEnds.{LaneEnds};
@@ -6,9 +6,9 @@ ghost use Rattle.hdl_workers.specs.Ends.{AreDistinct};
 ghost use Rattle.hdl_scripts.specs.Same.{IsEach};
 
 use crate::lanes::words::bad;
-use crate::table::{Table, TableRows, empty_rows};
-use hdl_core::{Service, Tenants};
-use hdl_serve::{Clock, LaneEnds, Served, WriteQueue, serve};
+use crate::opening::Opening;
+use hdl_core::Tenants;
+use hdl_serve::{Clock, LaneEnds, Owing, Served, Service, WriteQueue, serve};
 use std::alloc::Global;
 use std::time::Duration;
 use std::{io, mem};
@@ -56,39 +56,48 @@ impl Clock for Pauses {
     fn note_work(&mut self) {}
 }
 
-/// A service, once it was opened.
+/// A service, once it was opened, and the queue of its lanes.
 #[derive(Drop)]
-pub struct Held {
-    pub alloc: Global,
-    pub service: Option<Service<TableRows>>,
+pub struct Held<O: Opening + Drop> {
+    alloc: Global,
+    opening: O,
+    service: Option<Service<O::Rows>>,
+    queue: WriteQueue,
+}
+
+/// A service that isn't opened yet.
+pub fn without_service<O: Opening + Drop>(alloc: Global, opening: O) -> Held<O> {
+    Held {
+        alloc,
+        opening,
+        service: None,
+        queue: WriteQueue::new(alloc),
+    }
 }
 
 /// Serves lanes, which stay the same, and counts the pauses.
-fn serve_lanes(
+fn serve_lanes<R: Owing + Drop>(
     alloc: Global,
-    service: Service<TableRows>,
+    service: Service<R>,
     lanes: Vec<LaneEnds>,
+    queue: &mut WriteQueue,
     turns: u64,
-) -> (Served<TableRows>, u64)
+) -> (Served<R>, u64)
     requires { AreDistinct lanes.items }
     ensures distinct { AreDistinct result.0.lanes.items }
     ensures same { (firsts : List LaneEnds) → All (IsEach firsts) lanes.items → All (IsEach firsts) result.0.lanes.items }
 {
     let mut clock = Pauses { count: 0 };
-    let mut queue = WriteQueue::new(alloc);
-    let served = serve(alloc, service, lanes, &mut clock, &mut queue, turns);
+    let served = serve(alloc, service, lanes, &mut clock, queue, turns);
     (served, clock.count)
 }
 
-impl Serving for Held {
+impl<O: Opening + Drop> Serving for Held<O> {
     fn open(&mut self, tenants: &str) -> io::Result<()> {
         let Ok(tenants) = Tenants::read(self.alloc, tenants) else {
             return Err(bad());
         };
-        let Some(rows) = empty_rows(self.alloc, Table::Memory, 0) else {
-            return Err(bad());
-        };
-        self.service = Service::open(self.alloc, tenants, rows).ok();
+        self.service = self.opening.open(tenants).ok();
         Ok(())
     }
 
@@ -97,7 +106,7 @@ impl Serving for Held {
             return turns;
         };
         let ends = mem::replace(lanes, Vec::new(self.alloc));
-        let (served, pauses) = serve_lanes(self.alloc, service, ends, turns);
+        let (served, pauses) = serve_lanes(self.alloc, service, ends, &mut self.queue, turns);
         let Served {
             service,
             lanes: ends,
@@ -108,5 +117,7 @@ impl Serving for Held {
         pauses
     }
 
-    fn end_write(&mut self) {}
+    fn end_write(&mut self) {
+        self.opening.end_write();
+    }
 }

@@ -22,7 +22,7 @@ returns-then-is_challenged-clause-asked g c =
     let needed : (response_number c.in_ok-decision.decision.code == 402) ≡ true = sym c.is_challenged.ensures ∙ c.if-is_challenged.true in
     let named = c.in_ok-named.ensures.asked in
     on_ok c.challenge.result _ _
-    (λ heard is. subst (λ (h : Heard). IsHeardForAnyone (context c.args.owner.now t) m c.args.next r h (g.R.Rows.content c.decide.new.rows)) (sym (is ∙ ap (λ (x : HashedRequest). challenge_of_request x.algorithm m c.args.next x.request.now) named)) (
+    (λ heard is. subst (λ (h : Heard). IsHeardForAnyone (context c.args.speaker.now t) m c.args.next r h (g.R.Rows.content c.decide.new.rows)) (sym (is ∙ ap (λ (x : HashedRequest). challenge_of_request x.algorithm m c.args.next x.request.now) named)) (
       decision_of c.in_ok-decision.decision,
       named_decides t Anyone (decision_of c.in_ok-decision.decision) c.in_ok-named.ensures.owner named c.in_ok-decision.ensures.decided,
       needed,

@@ -1,4 +1,4 @@
-use Rattle.std.proofs.Common.{ℕ, List, sym, ap, ◌∙◌, subst}
+use Rattle.std.proofs.Common.{◌≡◌, ℕ, List, true, false, sym, ap, ◌∙◌, subst}
 use Rattle.hdl_value.specs.declared.wire.Wire.{Wire}
 use Rattle.hdl_msg.specs.Message.{SpellsRequest}
 use Rattle.hdl_ops.proofs.Announced.{answer_announced_lem, proven_code, timeout_announced}
@@ -6,8 +6,9 @@ use Rattle.hdl_ops.specs.Decisions.{Proven}
 use Rattle.hdl_ops.specs.Proven.{Proof}
 use Rattle.hdl_ops.specs.Tables.{apply_if}
 use Rattle.hdl_ops.specs.Views.{algorithms_by, decision_of, hosted_by, response_view, wire_by}
+use Rattle.hdl_laws.specs.Tasks.{is_denied}
 use Rattle.hdl_core.specs.Serving.{speech_by}
-use Rattle.hdl_core.proofs.Heard.{on_ok, on_both, named_decides, unreadable, late, proven}
+use Rattle.hdl_core.proofs.Heard.{on_ok, on_both, named_decides, unreadable, denied_later, late, proven}
 use Rattle.hdl_ops.specs.Cost.{proof_cost}
 use Rattle.hdl_ops.proofs.Costs.{by_proof}
 use Rattle.hdl_core.proofs.Costs.{then_nothing}
@@ -16,26 +17,36 @@ use Rattle.hdl_core.proofs.hearing.redeem.Goals as goal
 pub returns-in_default-clause-redeemed : goal.returns-in_default-clause-redeemed
 returns-in_default-clause-redeemed g c =
     on_ok c.malformed_reply.result _ _
-    (λ octets is. unreadable (speech_by c.args.owner.now) (hosted_by c.args.owner.now) (algorithms_by c.args.owner.now) (g.R.Rows.content c.args.rows.now) c.args.origin.now (response_view c.args.response) c.args.pending.now octets
-    (λ r spells. c.in_default.ensures.malformed r (subst (λ (w : Wire). SpellsRequest w c.as_slice.result.now r) (sym c.wire.ensures) (subst (λ (b : List ℕ). SpellsRequest (wire_by c.args.owner.now) b r) (sym c.as_slice.ensures) spells))) is)
+    (λ octets is. unreadable (speech_by c.args.speaker.now) (hosted_by c.args.speaker.now.owner) (algorithms_by c.args.speaker.now.owner) (g.R.Rows.content c.args.rows.now) c.args.origin.now (response_view c.args.response) c.args.pending.now octets
+    (λ r spells. c.in_default.ensures.malformed r (subst (λ (w : Wire). SpellsRequest w c.as_slice.result.now r) (sym c.wire.ensures) (subst (λ (b : List ℕ). SpellsRequest (wire_by c.args.speaker.now.owner) b r) (sym c.as_slice.ensures) spells))) is)
     c.malformed_reply.ensures.octets
+
+pub returns-then-is_denied-clause-redeemed : goal.returns-then-is_denied-clause-redeemed
+returns-then-is_denied-clause-redeemed g c =
+    let never : true ≡ is_denied c.args.speaker.now.takes_changes c.in-Ok.request.operation = sym c.if-is_denied.true ∙ c.is_denied.ensures ∙ ap (is_denied c.args.speaker.now.takes_changes) c.body.ensures in
+    on_ok c.deny.result _ _
+    (λ octets is. denied_later (speech_by c.args.speaker.now) (hosted_by c.args.speaker.now.owner) (algorithms_by c.args.speaker.now.owner) (g.R.Rows.content c.args.rows.now) c.args.origin.now (response_view c.args.response) c.args.pending.now c.in-Ok.request octets
+    (subst (λ (b : List ℕ). SpellsRequest (wire_by c.args.speaker.now.owner) b c.in-Ok.request) c.as_slice.ensures (subst (λ (w : Wire). SpellsRequest w c.as_slice.result.now c.in-Ok.request) c.wire.ensures c.in-Ok.ensures.read)) never is)
+    c.deny.ensures.denied
 
 pub returns-then-is_late-clause-redeemed : goal.returns-then-is_late-clause-redeemed
 returns-then-is_late-clause-redeemed g c =
+    let allowed : false ≡ is_denied c.args.speaker.now.takes_changes c.in-Ok.request.operation = sym c.if-is_denied.false ∙ c.is_denied.ensures ∙ ap (is_denied c.args.speaker.now.takes_changes) c.body.ensures in
     on_ok c.code_reply.result _ _
-    (λ octets is. late (speech_by c.args.owner.now) (hosted_by c.args.owner.now) (algorithms_by c.args.owner.now) (g.R.Rows.content c.args.rows.now) c.args.origin.now (response_view c.args.response) c.args.pending.now c.in-Ok.request c.algorithm.result octets c.algorithm.ensures
-    (subst (λ (b : List ℕ). SpellsRequest (wire_by c.args.owner.now) b c.in-Ok.request) c.as_slice.ensures (subst (λ (w : Wire). SpellsRequest w c.as_slice.result.now c.in-Ok.request) c.wire.ensures c.in-Ok.ensures.read)) (λ message. sym c.if-is_late.true ∙ c.is_late.ensures message) is)
+    (λ octets is. late (speech_by c.args.speaker.now) (hosted_by c.args.speaker.now.owner) (algorithms_by c.args.speaker.now.owner) (g.R.Rows.content c.args.rows.now) c.args.origin.now (response_view c.args.response) c.args.pending.now c.in-Ok.request c.algorithm.result octets c.algorithm.ensures
+    (subst (λ (b : List ℕ). SpellsRequest (wire_by c.args.speaker.now.owner) b c.in-Ok.request) c.as_slice.ensures (subst (λ (w : Wire). SpellsRequest w c.as_slice.result.now c.in-Ok.request) c.wire.ensures c.in-Ok.ensures.read)) allowed (λ message. sym c.if-is_late.true ∙ c.is_late.ensures message) is)
     c.code_reply.ensures.reply
 
 pub returns-clause-redeemed : goal.returns-clause-redeemed
 returns-clause-redeemed g c =
-    let hosts = hosted_by c.args.owner.now in
+    let allowed : false ≡ is_denied c.args.speaker.now.takes_changes c.in-Ok.request.operation = sym c.if-is_denied.false ∙ c.is_denied.ensures ∙ ap (is_denied c.args.speaker.now.takes_changes) c.body.ensures in
+    let hosts = hosted_by c.args.speaker.now.owner in
     let t = g.R.Rows.content c.args.rows.now in
     let p : Proof = record { response = response_view c.args.response; nonce = c.args.pending.now.nonce; digest = c.args.pending.now.digest } in
     let d = decision_of c.in_ok-decision.decision in
     on_both c.answer.result _ _ _
-    (λ octets is table. proven (speech_by c.args.owner.now) hosts (algorithms_by c.args.owner.now) t c.args.origin.now (response_view c.args.response) c.args.pending.now c.in-Ok.request c.algorithm.result d octets (g.R.Rows.content c.answer.new.rows) c.algorithm.ensures
-    (subst (λ (b : List ℕ). SpellsRequest (wire_by c.args.owner.now) b c.in-Ok.request) c.as_slice.ensures (subst (λ (w : Wire). SpellsRequest w c.as_slice.result.now c.in-Ok.request) c.wire.ensures c.in-Ok.ensures.read)) (λ message. sym c.if-is_late.false ∙ c.is_late.ensures message)
+    (λ octets is table. proven (speech_by c.args.speaker.now) hosts (algorithms_by c.args.speaker.now.owner) t c.args.origin.now (response_view c.args.response) c.args.pending.now c.in-Ok.request c.algorithm.result d octets (g.R.Rows.content c.answer.new.rows) c.algorithm.ensures
+    (subst (λ (b : List ℕ). SpellsRequest (wire_by c.args.speaker.now.owner) b c.in-Ok.request) c.as_slice.ensures (subst (λ (w : Wire). SpellsRequest w c.as_slice.result.now c.in-Ok.request) c.wire.ensures c.in-Ok.ensures.read)) allowed (λ message. sym c.if-is_late.false ∙ c.is_late.ensures message)
     (named_decides t (Proven p) d c.in_ok-named.ensures.owner c.in_ok-named.ensures.asked c.in_ok-decision.ensures.decided) is (table ∙ ap (λ t. apply_if t c.args.origin.now.moment c.in_ok-decision.decision.change) c.decide.ensures.unchanged))
     c.answer.ensures.reply c.answer.ensures.done
 
@@ -48,7 +59,7 @@ pub returns-clause-read : goal.returns-clause-read
 returns-clause-read g c =
     let e = c.args.origin.now.envelope in
     let r = c.in-Ok.request in
-    let hosts = hosted_by c.args.owner.now in
+    let hosts = hosted_by c.args.speaker.now.owner in
     let t = g.R.Rows.content c.args.rows.now in
     let p : Proof = record { response = response_view c.args.response; nonce = c.args.pending.now.nonce; digest = c.args.pending.now.digest } in
     let d = decision_of c.in_ok-decision.decision in

@@ -11,13 +11,13 @@ use Rattle.hdl_core.proofs.hearing.respond.Goals as goal
 pub returns-in_default-clause-responded : goal.returns-in_default-clause-responded
 returns-in_default-clause-responded g c =
     on_ok c.code_reply.result _ _
-    (λ octets is. unknown (speech_by c.args.owner.now) (hosted_by c.args.owner.now) (algorithms_by c.args.owner.now) (g.R.Rows.content c.args.rows.now) c.args.origin.now c.args.lanes.now c.args.origin.now.lane c.args.request.now (response_view c.args.response) octets
+    (λ octets is. unknown (speech_by c.args.speaker.now) (hosted_by c.args.speaker.now.owner) (algorithms_by c.args.speaker.now.owner) (g.R.Rows.content c.args.rows.now) c.args.origin.now c.args.lanes.now c.args.origin.now.lane c.args.request.now (response_view c.args.response) octets
     (sym (ap option_copied c.in_default.is) ∙ c.find.ensures) is)
     c.code_reply.ensures.reply
 
 pub returns-clause-responded : goal.returns-clause-responded
 returns-clause-responded g c =
-    known (speech_by c.args.owner.now) (hosted_by c.args.owner.now) (algorithms_by c.args.owner.now) (g.R.Rows.content c.args.rows.now) c.args.origin.now c.args.lanes.now c.args.origin.now.lane c.args.request.now (response_view c.args.response) c.in-Some.pending.now c.in_ok-octets.octets c.spend.new.self (g.R.Rows.content c.redeem.new.rows)
+    known (speech_by c.args.speaker.now) (hosted_by c.args.speaker.now.owner) (algorithms_by c.args.speaker.now.owner) (g.R.Rows.content c.args.rows.now) c.args.origin.now c.args.lanes.now c.args.origin.now.lane c.args.request.now (response_view c.args.response) c.in-Some.pending.now c.in_ok-octets.octets c.spend.new.self (g.R.Rows.content c.redeem.new.rows)
     (sym (ap option_copied c.in-Some.is) ∙ c.find.ensures) c.in_ok-octets.ensures.redeemed c.spend.ensures
 
 pub returns-in_default-clause-read : goal.returns-in_default-clause-read

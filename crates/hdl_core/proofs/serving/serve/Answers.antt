@@ -11,30 +11,30 @@ use Rattle.hdl_core.proofs.serving.serve.Goals as goal
 
 pub returns-then-not-is_open-clause-served : goal.returns-then-not-is_open-clause-served
 returns-then-not-is_open-clause-served g c =
-    unbroken (speech_by c.args.owner.now) (hosted_by c.args.owner.now) (algorithms_by c.args.owner.now) (g.R.Rows.content c.args.rows.now) c.args.lanes.now c.args.event.lane c.args.event.what c.in-Bad.session c.in-Bad.request c.in-Bad.is (sym c.is_open.ensures ∙ c.if-not-is_open.true)
+    unbroken (speech_by c.args.speaker.now) (hosted_by c.args.speaker.now.owner) (algorithms_by c.args.speaker.now.owner) (g.R.Rows.content c.args.rows.now) c.args.lanes.now c.args.event.lane c.args.event.what c.in-Bad.session c.in-Bad.request c.in-Bad.is (sym c.is_open.ensures ∙ c.if-not-is_open.true)
 
 pub returns-then-not-is_open-2-clause-served : goal.returns-then-not-is_open-2-clause-served
 returns-then-not-is_open-2-clause-served g c =
     let x : Received = record { peer = c.in-Frame.peer; moment = c.in-Frame.moment; nonce = c.in-Frame.nonce; bytes = c.in-Frame.bytes } in
-    unheard (speech_by c.args.owner.now) (hosted_by c.args.owner.now) (algorithms_by c.args.owner.now) (g.R.Rows.content c.args.rows.now) c.args.lanes.now c.args.event.lane c.args.event.what x c.in-Frame.is (sym c.is_open-in-Frame.ensures ∙ c.if-not-is_open-2.true)
+    unheard (speech_by c.args.speaker.now) (hosted_by c.args.speaker.now.owner) (algorithms_by c.args.speaker.now.owner) (g.R.Rows.content c.args.rows.now) c.args.lanes.now c.args.event.lane c.args.event.what x c.in-Frame.is (sym c.is_open-in-Frame.ensures ∙ c.if-not-is_open-2.true)
 
 pub returns-in-Open-clause-served : goal.returns-in-Open-clause-served
 returns-in-Open-clause-served g c =
-    opened (speech_by c.args.owner.now) (hosted_by c.args.owner.now) (algorithms_by c.args.owner.now) (g.R.Rows.content c.args.rows.now) c.args.lanes.now c.args.event.lane c.args.event.what c.renew.new.self c.in-Open.is c.renew.ensures
+    opened (speech_by c.args.speaker.now) (hosted_by c.args.speaker.now.owner) (algorithms_by c.args.speaker.now.owner) (g.R.Rows.content c.args.rows.now) c.args.lanes.now c.args.event.lane c.args.event.what c.renew.new.self c.in-Open.is c.renew.ensures
 
 pub returns-in-Close-clause-served : goal.returns-in-Close-clause-served
 returns-in-Close-clause-served g c =
-    closed (speech_by c.args.owner.now) (hosted_by c.args.owner.now) (algorithms_by c.args.owner.now) (g.R.Rows.content c.args.rows.now) c.args.lanes.now c.args.event.lane c.args.event.what c.renew-in-Close.new.self c.in-Close.is c.renew-in-Close.ensures
+    closed (speech_by c.args.speaker.now) (hosted_by c.args.speaker.now.owner) (algorithms_by c.args.speaker.now.owner) (g.R.Rows.content c.args.rows.now) c.args.lanes.now c.args.event.lane c.args.event.what c.renew-in-Close.new.self c.in-Close.is c.renew-in-Close.ensures
 
 pub returns-else-not-is_open-clause-served : goal.returns-else-not-is_open-clause-served
 returns-else-not-is_open-clause-served g c =
-    broken (speech_by c.args.owner.now) (hosted_by c.args.owner.now) (algorithms_by c.args.owner.now) (g.R.Rows.content c.args.rows.now) c.args.lanes.now c.args.event.lane c.args.event.what c.in-Bad.session c.in-Bad.request c.refuse.result c.in-Bad.is (sym c.is_open.ensures ∙ c.if-not-is_open.false)
+    broken (speech_by c.args.speaker.now) (hosted_by c.args.speaker.now.owner) (algorithms_by c.args.speaker.now.owner) (g.R.Rows.content c.args.rows.now) c.args.lanes.now c.args.event.lane c.args.event.what c.in-Bad.session c.in-Bad.request c.refuse.result c.in-Bad.is (sym c.is_open.ensures ∙ c.if-not-is_open.false)
     (c.refuse.ensures ∙ ap (short_reply 4) c.of_message.ensures.envelope)
 
 pub returns-else-not-is_open-2-clause-served : goal.returns-else-not-is_open-2-clause-served
 returns-else-not-is_open-2-clause-served g c =
     let x : Received = record { peer = c.in-Frame.peer; moment = c.in-Frame.moment; nonce = c.in-Frame.nonce; bytes = c.in-Frame.bytes } in
-    received (speech_by c.args.owner.now) (hosted_by c.args.owner.now) (algorithms_by c.args.owner.now) (g.R.Rows.content c.args.rows.now) c.args.lanes.now c.args.event.lane c.args.event.what x c.receive.result c.receive.new.lanes (g.R.Rows.content c.receive.new.rows) c.in-Frame.is (sym c.is_open-in-Frame.ensures ∙ c.if-not-is_open-2.false) c.receive.ensures.received
+    received (speech_by c.args.speaker.now) (hosted_by c.args.speaker.now.owner) (algorithms_by c.args.speaker.now.owner) (g.R.Rows.content c.args.rows.now) c.args.lanes.now c.args.event.lane c.args.event.what x c.receive.result c.receive.new.lanes (g.R.Rows.content c.receive.new.rows) c.in-Frame.is (sym c.is_open-in-Frame.ensures ∙ c.if-not-is_open-2.false) c.receive.ensures.received
 
 pub returns-else-not-is_open-clause-read : goal.returns-else-not-is_open-clause-read
 returns-else-not-is_open-clause-read g c = subst IsReplyFrame (sym c.refuse.ensures) (short_reply_read c.of_message.result).1

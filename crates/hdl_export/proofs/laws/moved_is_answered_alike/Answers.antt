@@ -1,6 +1,6 @@
+use Rattle.hdl_laws.specs.Worlds.{with_table}
 use Rattle.hdl_laws.proofs.Isolation.{two_runs_agree}
 use Rattle.hdl_core.specs.Opening.{opening_table}
-use Rattle.hdl_export.specs.Laws.{with_table}
 use Rattle.hdl_export.proofs.laws.moved_is_answered_alike.Goals as goal
 
 pub returns : goal.returns

@@ -1,4 +1,4 @@
-use Rattle.std.proofs.Common.{◌≡◌, ◌==◌, ◌<◌, false, length, inr, sym, ◌∙◌}
+use Rattle.std.proofs.Common.{◌<◌, length, inr, sym, ◌∙◌}
 use Rattle.std.proofs.lemmas.Result.{on_ok_weaker}
 use Rattle.hdl_proxy.proofs.Sections.{positive}
 use Rattle.hdl_proxy.proofs.pages.put_values.Goals as goal

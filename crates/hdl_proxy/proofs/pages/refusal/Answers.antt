@@ -1,5 +1,4 @@
 use Rattle.std.proofs.Common.{List, ℕ, ap, ◌++◌, ◌∙◌}
-use Rattle.std.specs.Prelude.{codes}
 use Rattle.std.specs.Global.{Vec}
 use Rattle.hdl_proxy.specs.Pages.{advice_part, name_part, refusal_page, top}
 use Rattle.hdl_proxy.proofs.Joined.{two}

@@ -20,5 +20,5 @@ returns-in-None c =
     let handle = c.args.name.now in
     let values = c.args.values.now in
     let said = c.values_page.ensures in
-    let page : IfOk c.values_page.result (IsPage handle c.args.way.wrong values) = made_so c.values_page.result _ _ _ _ _ (λ a told kept title body. record { told = told; kept = kept; title = title; body = body }) said.told said.kept said.title said.body in
+    let page : IfOk c.values_page.result (IsPage handle c.args.way.wrong values) = made_so c.values_page.result _ _ _ _ _ _ (λ a told kept about title body. record { told = told; kept = kept; about = about; title = title; body = body }) said.told said.kept said.about said.title said.body in
     subst (λ way. IfOk c.values_page.result (Goes handle values way c.args.way.wrong)) (sym c.in-None.is) page

@@ -12,8 +12,8 @@ returns c =
     let contact = c.args.contact.now in
     on_ok_weaker c.element.result (λ put.
     three c.args.page.now.octets.items _ _ _
-    (codes "<footer>Questions? <a href=\"") (escaped contact.to) (element (codes "\">") (string_bytes contact.text) (codes "</a></footer>\n"))
+    (codes "<footer>Questions? <a href=\"") (escaped contact.to) (element (codes "\"><bdi>") (string_bytes contact.text) (codes "</bdi></a></footer>\n"))
     c.in_ok-markup.ensures
     (said c.markup.new.self.octets.items _ c.octets.result.now contact.to c.in_ok-text.ensures c.octets.ensures.octets)
-    (put_as c.text.new.self.octets.items _ (codes "\">") c.as_bytes.result.now (string_bytes contact.text) (codes "</a></footer>\n") put c.as_bytes.ensures.value))
+    (put_as c.text.new.self.octets.items _ (codes "\"><bdi>") c.as_bytes.result.now (string_bytes contact.text) (codes "</bdi></a></footer>\n") put c.as_bytes.ensures.value))
     c.element.ensures

@@ -18,6 +18,7 @@ returns c =
       location = refl;
       media = refl;
       tag = refl;
+      about = refl;
       title = c.in_ok-extend_from_slice-2.ensures.items ∙ ap (λ (x : List ℕ). x ++ c.deref.result.now) begun
           ∙ ap (λ (x : List ℕ). (asked ++ codes ", an alias: ") ++ x) c.deref.ensures.value ∙ append_assoc asked (codes ", an alias: ") title;
       body = ap (λ (v : Vec ℕ). v.items) c.into_octets.ensures ∙ c.in_ok-part.ensures ∙ ap (λ (x : List ℕ). x ++ body) above;

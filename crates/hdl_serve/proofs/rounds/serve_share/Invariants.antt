@@ -1,6 +1,7 @@
 use Rattle.std.proofs.Common.{◌≡◌, ◌≤◌, List}
 use Rattle.hdl_laws.specs.Worlds.{World}
 use Rattle.hdl_workers.specs.declared.ends.LaneEnds.{LaneEnds}
+use Rattle.hdl_serve.specs.declared.news.StampedChange.{StampedChange}
 use Rattle.hdl_serve.specs.Rounds.{IsServing}
 use Rattle.hdl_serve.proofs.rounds.serve_share.Given as goal
 
@@ -8,5 +9,5 @@ abbrev pub invariant-loop : goal.invariant-loop
 invariant-loop g l = record {
   few : l.longest ≤ l.initial.share.most;
   most : l.share.most ≡ l.initial.share.most;
-  serving : (w : World) (before : List LaneEnds) → IsServing w before l.initial.machine.world l.initial.lanes l.initial.ended → IsServing w before l.machine.world l.lanes l.ended;
+  serving : (w : World) (before : List LaneEnds) (changes : List StampedChange) → IsServing w before changes l.initial.machine.world l.initial.lanes l.initial.ended → IsServing w before changes l.machine.world l.lanes l.ended;
 }

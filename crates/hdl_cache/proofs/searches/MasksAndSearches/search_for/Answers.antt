@@ -1,7 +1,7 @@
 use Rattle.std.proofs.Common.{rules, Some, IfSome, subst}
 use Rattle.hdl_name.specs.Name.{canonical}
 use Rattle.hdl_reach.specs.Search.{IsSearch}
-use Rattle.hdl_reach.proofs.Costs.{values_read}
+use Rattle.hdl_reach.proofs.Costs.{grants_read}
 use Rattle.hdl_cache.proofs.searches.MasksAndSearches.search_for.Goals as goal
 
 pub returns-in-Some-clause-of_table : goal.returns-in-Some-clause-of_table
@@ -14,4 +14,4 @@ pub returns-clause-of_table : goal.returns-clause-of_table
 returns-clause-of_table g c = (c.take.ensures.of_table (g.R.Rows.content c.args.rows.now) c.requires.of_table).0
 
 pub returns-clause-cost : goal.returns-clause-cost
-returns-clause-cost g c = values_read (g.R.Rows.content c.args.rows.now) (canonical c.args.name.now) _ _ c.begin.ensures.cost
+returns-clause-cost g c = grants_read (g.R.Rows.content c.args.rows.now) (canonical c.args.name.now) _ _ c.begin.ensures.cost

@@ -4,7 +4,7 @@ use Rattle.hdl_cachedrows.specs.Cost.{total}
 use Rattle.hdl_cachedrows.specs.Cache.{AreTrue}
 use Rattle.hdl_cachedrows.proofs.Keys.{is_key, Lru}
 use Rattle.hdl_cachedrows.proofs.Totals.{given, let_go, total-remove_entry}
-use Rattle.hdl_cachedrows.proofs.Truth.{forgotten_true}
+use Rattle.hdl_cachedrows.proofs.Truth.{forgotten_true, forgotten_was}
 use Rattle.hdl_cachedrows.proofs.cache.Cache.forget.Goals as goal
 
 left : (c : goal.After-cost)
@@ -29,8 +29,11 @@ invariant_of-self-in_default c =
     ap (λ (k : Lru). total k.entries + given (lookup_entry (is_key c.args.name.now) old)) c.pop_entry.ensures.entries ∙ total-remove_entry (is_key c.args.name.now) old ∙ sym c.args.self.now.counted in
     record { counted = omega arith; bounded = c.args.self.now.bounded }
 
+pub returns-in-Some-clause-of_table : goal.returns-in-Some-clause-of_table
+returns-in-Some-clause-of_table c = λ t all. forgotten_was t c.args.name.now c.args.self.now.kept.entries (c.in-Some.name, c.in-Some.kept) all (sym c.pop_entry.ensures.value ∙ c.in-Some.is)
+
 pub returns-in-Some-clause-still_true : goal.returns-in-Some-clause-still_true
 returns-in-Some-clause-still_true c = λ t u all agree. subst (λ (k : Lru). AreTrue u k.entries) (sym c.pop_entry.ensures.entries) (forgotten_true t u c.args.name.now c.args.self.now.kept.entries c.len.ensures.valid.0 all agree)
 
-pub returns-in_default-clause-still_true : goal.returns-in_default-clause-still_true
-returns-in_default-clause-still_true c = λ t u all agree. subst (λ (k : Lru). AreTrue u k.entries) (sym c.pop_entry.ensures.entries) (forgotten_true t u c.args.name.now c.args.self.now.kept.entries c.len.ensures.valid.0 all agree)
+pub returns-clause-still_true : goal.returns-clause-still_true
+returns-clause-still_true c = λ t u all agree. subst (λ (k : Lru). AreTrue u k.entries) (sym c.pop_entry.ensures.entries) (forgotten_true t u c.args.name.now c.args.self.now.kept.entries c.len.ensures.valid.0 all agree)

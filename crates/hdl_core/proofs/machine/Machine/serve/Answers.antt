@@ -16,23 +16,23 @@ use Rattle.hdl_core.proofs.machine.Machine.serve.Goals as goal
 pub returns-then-event-len : goal.returns-then-event-len
 returns-then-event-len g c =
     let world = ap (λ (m : Machine _). m.world) c.self.view_is in
-    let done : Steps c.args.self.now.world c.args.event Silent c.args.self.now.world = subst (λ w. Steps w c.args.event Silent w) world (steps_alone c.self.inside.tenants c.self.inside.lanes _ c.args.event (omega (arith, c.len.ensures, c.if-event-len.true))) in
+    let done : Steps c.args.self.now.world c.args.event Silent c.args.self.now.world = subst (λ w. Steps w c.args.event Silent w) world (steps_alone c.self.inside.tenants c.self.inside.takes_changes c.self.inside.lanes _ c.args.event (omega (arith, c.len.ensures, c.if-event-len.true))) in
     record { step = done; told = c.reply_told.ensures _ _ _ _ done; read = tt; cost = unread _ proof_cost _ _ refl; stranger = λ _. unread _ anyone_cost _ _ refl }
 
 pub returns : goal.returns
 returns g c =
     let world = ap (λ (m : Machine _). m.world) c.self.view_is in
     let table = g.R.Rows.content c.self.inside.rows in
-    let new = world_of c.self.inside.tenants c.serve.new.lanes (g.R.Rows.content c.serve.new.rows) in
-    let served = subst (λ u. ServesAt (scene c.self.inside.tenants table c.self.inside.lanes u) c.args.event.lane c.args.event.what c.serve.result c.serve.new.lanes (g.R.Rows.content c.serve.new.rows)) c.publisher.ensures c.serve.ensures.served in
+    let new = world_of c.self.inside.tenants c.self.inside.takes_changes c.serve.new.lanes (g.R.Rows.content c.serve.new.rows) in
+    let served = subst (λ u. ServesAt (scene c.self.inside.tenants c.self.inside.takes_changes table c.self.inside.lanes u) c.args.event.lane c.args.event.what c.serve.result c.serve.new.lanes (g.R.Rows.content c.serve.new.rows)) c.publisher.ensures c.serve.ensures.served in
     let done : Steps c.args.self.now.world c.args.event c.serve.result new =
     subst (λ w. Steps w c.args.event c.serve.result new) world
-    (steps_served c.self.inside.tenants c.self.inside.lanes c.serve.new.lanes table (g.R.Rows.content c.serve.new.rows) c.args.event c.serve.result (omega (arith, c.len.ensures, c.if-event-len.false)) served) in
+    (steps_served c.self.inside.tenants c.self.inside.takes_changes c.self.inside.lanes c.serve.new.lanes table (g.R.Rows.content c.serve.new.rows) c.args.event c.serve.result (omega (arith, c.len.ensures, c.if-event-len.false)) served) in
     record {
       step = done;
       told = c.reply_told.ensures _ _ _ _ done;
       read = c.serve.ensures.read;
-      cost = subst (λ (m : Machine _). ReadsWithin m.world.table proof_cost (g.R.Rows.reads m.rows) (g.R.Rows.reads c.serve.new.rows)) c.self.view_is (in_world c.self.inside.tenants c.self.inside.lanes table proof_cost _ _ c.serve.ensures.cost);
+      cost = subst (λ (m : Machine _). ReadsWithin m.world.table proof_cost (g.R.Rows.reads m.rows) (g.R.Rows.reads c.serve.new.rows)) c.self.view_is (in_world c.self.inside.tenants c.self.inside.takes_changes c.self.inside.lanes table proof_cost _ _ c.serve.ensures.cost);
       stranger = subst (λ (m : Machine _). IsStranger (lane_of m.world c.args.event.lane) c.args.event.what → ReadsWithin m.world.table anyone_cost (g.R.Rows.reads m.rows) (g.R.Rows.reads c.serve.new.rows)) c.self.view_is
-          (λ s. in_world c.self.inside.tenants c.self.inside.lanes table anyone_cost _ _ (c.serve.ensures.stranger (stranger_here c.self.inside.tenants c.self.inside.lanes table c.args.event (omega (arith, c.len.ensures, c.if-event-len.false)) s)));
+          (λ s. in_world c.self.inside.tenants c.self.inside.takes_changes c.self.inside.lanes table anyone_cost _ _ (c.serve.ensures.stranger (stranger_here c.self.inside.tenants c.self.inside.takes_changes c.self.inside.lanes table c.args.event (omega (arith, c.len.ensures, c.if-event-len.false)) s)));
     }

@@ -10,12 +10,12 @@ use Rattle.hdl_core.proofs.machine.Machine.step.Goals as goal
 
 pub returns-clause-step : goal.returns-clause-step
 returns-clause-step g c =
-    let same = ap (world_of c.self.inside.tenants c.self.inside.lanes) c.let_write.ensures.unchanged ∙ ap (λ (m : Machine _). m.world) c.self.view_is in
+    let same = ap (world_of c.self.inside.tenants c.self.inside.takes_changes c.self.inside.lanes) c.let_write.ensures.unchanged ∙ ap (λ (m : Machine _). m.world) c.self.view_is in
     subst (λ w. Steps w c.args.event c.serve-outcome.result c.serve-outcome.new.self.world) same c.serve-outcome.ensures.step
 
 pub returns-clause-cost : goal.returns-clause-cost
 returns-clause-cost g c =
-    let same = ap (world_of c.self.inside.tenants c.self.inside.lanes) c.let_write.ensures.unchanged ∙ ap (λ (m : Machine _). m.world) c.self.view_is in
+    let same = ap (world_of c.self.inside.tenants c.self.inside.takes_changes c.self.inside.lanes) c.let_write.ensures.unchanged ∙ ap (λ (m : Machine _). m.world) c.self.view_is in
     let read = c.let_write.ensures.reads ∙ ap (λ (m : Machine _). g.R.Rows.reads m.rows) c.self.view_is in
     let new = g.R.Rows.reads c.serve-outcome.new.self.rows in
     subst (λ (n : ℕ). ReadsWithin c.args.self.now.world.table proof_cost n new) read
@@ -23,7 +23,7 @@ returns-clause-cost g c =
 
 pub returns-clause-stranger : goal.returns-clause-stranger
 returns-clause-stranger g c =
-    let same = ap (world_of c.self.inside.tenants c.self.inside.lanes) c.let_write.ensures.unchanged ∙ ap (λ (m : Machine _). m.world) c.self.view_is in
+    let same = ap (world_of c.self.inside.tenants c.self.inside.takes_changes c.self.inside.lanes) c.let_write.ensures.unchanged ∙ ap (λ (m : Machine _). m.world) c.self.view_is in
     let read = c.let_write.ensures.reads ∙ ap (λ (m : Machine _). g.R.Rows.reads m.rows) c.self.view_is in
     let new = g.R.Rows.reads c.serve-outcome.new.self.rows in
     subst (λ (n : ℕ). IsStranger (lane_of c.args.self.now.world c.args.event.lane) c.args.event.what → ReadsWithin c.args.self.now.world.table anyone_cost n new) read

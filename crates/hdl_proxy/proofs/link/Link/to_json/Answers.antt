@@ -1,6 +1,5 @@
-use Rattle.std.proofs.Common.{◌≡◌, ℕ, List, ◌++◌, inr, ap, sym, ◌∙◌, string_bytes, rules}
-use Rattle.std.specs.Prelude.{codes}
-use Rattle.hdl_proxy.specs.Link.{path_to, path_to_json}
+use Rattle.std.proofs.Common.{◌≡◌, inr, string_bytes, rules}
+use Rattle.hdl_proxy.specs.Link.{path_to_json}
 use Rattle.hdl_proxy.proofs.link.Link.to_json.Goals as goal
 
 pub invariant_of-result : goal.invariant_of-result

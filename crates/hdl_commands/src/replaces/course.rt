@@ -1,0 +1,268 @@
+//! What is done with each handle of a replacement.
+
+use crate::imports::{row_of, whole_values};
+use crate::replaces::asking::Replacement;
+use crate::replaces::data::{URL, all_replaced};
+use crate::replaces::fault::ReplaceFault;
+use crate::words::{code_name, line_of};
+use hdl_client::{ClientFault, Key, Session, Transport};
+use hdl_limits::{Items, Octets};
+use hdl_lines::printed_octets;
+use hdl_msg::{ContentView, RequestBody, ResponseCode};
+use hdl_name::Name;
+use hdl_value::Value;
+use std::alloc::{AllocError, Global};
+use std::fs::File;
+use std::io::Write;
+
+/// How many handles came to what.
+#[derive(Clone, Copy)]
+pub(crate) struct Counts {
+    pub changed: usize,
+    pub kept: usize,
+    pub failed: usize,
+}
+
+/// What each handle is done with.
+#[derive(Drop)]
+pub(crate) struct Course<'r> {
+    pub rt: &'r HostRuntime,
+    pub replacement: &'r Replacement,
+    pub key: Key,
+    /// The prefix in canonical form.
+    pub prefix: Vec<u8>,
+    /// What the old values are written to.
+    pub undo: Option<File>,
+    /// Whether some were.
+    pub has_old: bool,
+    pub counts: Counts,
+}
+
+/// What comes of a handle.
+enum Outcome {
+    Changed,
+    Kept,
+    Failed,
+}
+
+/// The URLs of a handle, or the code that came instead.
+fn urls_of<S: Transport>(
+    alloc: Global,
+    session: &mut Session<S>,
+    course: &Course<'_>,
+    handle: &[u8],
+) -> Result<Result<Vec<Value>, u32>, ClientFault> {
+    let mut types = Vec::new(alloc);
+    types.push(Octets::new(Vec::from_slice(alloc, URL)?))?;
+    let body = RequestBody::Resolution {
+        handle: Octets::new(Vec::from_slice(alloc, handle)?),
+        indexes: Items::new(Vec::new(alloc)),
+        types: Items::new(types),
+    };
+    let reply = session.ask(course.replacement.wire, &body, Some(&course.key))?;
+    let view = reply.view();
+    match view.content {
+        ContentView::Values { values, .. } => match whole_values(alloc, values)? {
+            Some(values) => Ok(Ok(values)),
+            None => Ok(Err(ResponseCode::ValueInvalid.number())),
+        },
+        _ if view.code() == Some(ResponseCode::ValueNotFound) => Ok(Ok(Vec::new(alloc))),
+        _ => Ok(Err(view.header.response_code)),
+    }
+}
+
+impl Course<'_> {
+    fn tell(&self, handle: &[u8], what: &str) -> Result<(), AllocError> {
+        let handle = printed_octets(self.rt.alloc(), handle)?;
+        let _ = println!(self.rt; "{handle}: {what}");
+        Ok(())
+    }
+
+    fn tell_code(&self, handle: &[u8], code: u32) -> Result<(), AllocError> {
+        let what = format!(in self.rt.alloc(); "{code} {}", code_name(code))?;
+        self.tell(handle, &what)
+    }
+
+    /// Prints a value behind a sign.
+    fn tell_value(&self, sign: &str, value: &Value) -> Result<(), AllocError> {
+        let alloc = self.rt.alloc();
+        let Some(line) = line_of(alloc, value)? else {
+            return Ok(());
+        };
+        let line = printed_octets(alloc, &line)?;
+        let _ = println!(self.rt; "{sign} {line}");
+        Ok(())
+    }
+
+    /// Says what of a handle is changed.
+    fn tell_change(
+        &self,
+        handle: &[u8],
+        there: &[Value],
+        changed: &[Value],
+    ) -> Result<(), AllocError> {
+        let is_dry = self.replacement.is_dry;
+        self.tell(
+            handle,
+            if is_dry {
+                "would be changed"
+            } else {
+                "changed"
+            },
+        )?;
+        for value in changed {
+            for old in there.iter().filter(|old| old.index == value.index) {
+                self.tell_value("-", old)?;
+            }
+            self.tell_value("+", value)?;
+        }
+        Ok(())
+    }
+
+    /// The rows of the values that will be changed; None where no row says one of them.
+    fn undo_rows(
+        &self,
+        handle: &[u8],
+        there: &[Value],
+        changed: &[Value],
+    ) -> Result<Option<Vec<u8>>, AllocError> {
+        let alloc = self.rt.alloc();
+        let mut rows = Vec::new(alloc);
+        for old in there {
+            if !changed.iter().any(|value| value.index == old.index) {
+                continue;
+            }
+            let Some(row) = row_of(alloc, handle, old)? else {
+                return Ok(None);
+            };
+            rows.extend_from_slice(&row)?;
+            rows.push(b'\n')?;
+        }
+        Ok(Some(rows))
+    }
+
+    /// Writes the old values, before they are changed. Answers whether rows say them, or no file is wanted.
+    fn keep_old(
+        &mut self,
+        handle: &[u8],
+        there: &[Value],
+        changed: &[Value],
+    ) -> Result<bool, ReplaceFault> {
+        if self.undo.is_none() {
+            return Ok(true);
+        }
+        let Some(rows) = self.undo_rows(handle, there, changed)? else {
+            return Ok(false);
+        };
+        if let Some(file) = &mut self.undo {
+            if let Err(error) = file.write_all(&rows) {
+                return Err(ReplaceFault::Unwritten(error));
+            }
+            self.has_old = true;
+        }
+        Ok(true)
+    }
+
+    /// Modifies values of a handle, and tells it.
+    fn modify<S: Transport>(
+        &self,
+        session: &mut Session<S>,
+        handle: &[u8],
+        there: &[Value],
+        changed: Vec<Value>,
+    ) -> Result<Outcome, ReplaceFault> {
+        let alloc = self.rt.alloc();
+        let body = RequestBody::Modify {
+            handle: Octets::new(Vec::from_slice(alloc, handle)?),
+            values: Items::new(changed),
+        };
+        let code = match session.ask(self.replacement.wire, &body, Some(&self.key)) {
+            Ok(reply) => reply.view().header.response_code,
+            Err(ClientFault::TooLong) => {
+                self.tell(handle, "the request has more than 65536 octets")?;
+                return Ok(Outcome::Failed);
+            }
+            Err(fault) => return Err(fault.into()),
+        };
+        if code != ResponseCode::Success.number() {
+            self.tell_code(handle, code)?;
+            return self.failed(code);
+        }
+        if let RequestBody::Modify { values, .. } = &body {
+            self.tell_change(handle, there, values.as_slice())?;
+        }
+        Ok(Outcome::Changed)
+    }
+
+    /// What a code of failure comes to: one that refuses the key ends all.
+    fn failed(&self, code: u32) -> Result<Outcome, ReplaceFault> {
+        if code == ResponseCode::AuthenticationFailed.number()
+            || code == ResponseCode::UnableToAuthenticate.number()
+        {
+            return Err(ReplaceFault::Refused);
+        }
+        Ok(Outcome::Failed)
+    }
+
+    /// Whether the octets are a handle of the prefix.
+    fn is_own(&self, handle: &[u8]) -> bool {
+        match Name::read(self.rt.alloc(), handle) {
+            Ok(name) => name.prefix() == self.prefix.as_slice(),
+            Err(_) => false,
+        }
+    }
+
+    fn replace_one<S: Transport>(
+        &mut self,
+        session: &mut Session<S>,
+        handle: &[u8],
+    ) -> Result<Outcome, ReplaceFault> {
+        let alloc = self.rt.alloc();
+        if !self.is_own(handle) {
+            self.tell(handle, "not a handle of this prefix")?;
+            return Ok(Outcome::Failed);
+        }
+        let there = match urls_of(alloc, session, self, handle)? {
+            Ok(values) => values,
+            Err(code) => {
+                self.tell_code(handle, code)?;
+                return self.failed(code);
+            }
+        };
+        let (old, new) = (&self.replacement.old, &self.replacement.new);
+        let changed = all_replaced(alloc, old.as_bytes(), new.as_bytes(), &there)?;
+        if changed.is_empty() {
+            return Ok(Outcome::Kept);
+        }
+        if self.replacement.is_dry {
+            self.tell_change(handle, &there, &changed)?;
+            return Ok(Outcome::Changed);
+        }
+        if !self.keep_old(handle, &there, &changed)? {
+            self.tell(
+                handle,
+                "no row of a CSV file says an old value: change it with `hdl batch`",
+            )?;
+            return Ok(Outcome::Failed);
+        }
+        self.modify(session, handle, &there, changed)
+    }
+
+    /// Replaces in each of these handles, one after the other.
+    pub fn replace_all<S: Transport>(
+        &mut self,
+        session: &mut Session<S>,
+        handles: &[Vec<u8>],
+    ) -> Result<(), ReplaceFault> {
+        for handle in handles {
+            let outcome = self.replace_one(session, handle)?;
+            let counts = &mut self.counts;
+            match outcome {
+                Outcome::Changed => counts.changed = counts.changed.saturating_add(1),
+                Outcome::Kept => counts.kept = counts.kept.saturating_add(1),
+                Outcome::Failed => counts.failed = counts.failed.saturating_add(1),
+            }
+        }
+        Ok(())
+    }
+}

@@ -1,0 +1,61 @@
+//! Why a replacement stopped.
+
+use crate::fault::WordFault;
+use hdl_client::ClientFault;
+use std::alloc::{AllocError, AllocFailed};
+use std::io;
+use thiserror::Error;
+
+/// Why nothing was replaced, or why it stopped.
+#[derive(Debug, Drop, Error)]
+pub(crate) enum ReplaceFault {
+    #[error("{0}")]
+    Words(WordFault),
+    #[error("the file of handles can't be read: {0}")]
+    Handles(io::Error),
+    #[error("the file for --undo can't be made: {0}: name a file that isn't there")]
+    Undo(io::Error),
+    #[error("the file for --undo can't be written: {0}")]
+    Unwritten(io::Error),
+    #[error("{0}")]
+    Client(ClientFault),
+    /// The list was refused with this code.
+    #[error("{0}")]
+    List(u32),
+    #[error("the server refuses the key: check --key and its secret; later handles were not tried")]
+    Refused,
+}
+
+impl ReplaceFault {
+    pub fn status(&self) -> u8 {
+        match self {
+            ReplaceFault::Client(_) => 3,
+            ReplaceFault::List(_) | ReplaceFault::Refused | ReplaceFault::Unwritten(_) => 1,
+            _ => 2,
+        }
+    }
+}
+
+impl From<ClientFault> for ReplaceFault {
+    fn from(fault: ClientFault) -> ReplaceFault {
+        ReplaceFault::Client(fault)
+    }
+}
+
+impl From<AllocError> for ReplaceFault {
+    fn from(_: AllocError) -> ReplaceFault {
+        ReplaceFault::Client(ClientFault::Memory)
+    }
+}
+
+impl<T: Drop> From<AllocFailed<T>> for ReplaceFault {
+    fn from(_: AllocFailed<T>) -> ReplaceFault {
+        ReplaceFault::Client(ClientFault::Memory)
+    }
+}
+
+impl From<WordFault> for ReplaceFault {
+    fn from(fault: WordFault) -> ReplaceFault {
+        ReplaceFault::Words(fault)
+    }
+}

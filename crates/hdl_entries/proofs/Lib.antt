@@ -1,0 +1,4 @@
+mod Codecs
+mod Loops
+mod Chains
+mod Requests

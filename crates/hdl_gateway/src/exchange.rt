@@ -1,0 +1,256 @@
+//! One request over a stream, and its answer.
+
+ghost use Rattle.std.specs.Prelude.{◌≡◌, ◌≤◌, length, IfOk, OnOk};
+ghost use Rattle.hdl_gateway.specs.Answers.{served};
+ghost use Rattle.hdl_gateway.specs.declared.exchange.TheConstants.{ANSWER_MAX};
+
+use crate::fault::GatewayFault;
+use httparse::spans::{EMPTY_HEADER_SPAN, HeaderSpan, parse_response};
+use httparse::{Status, parse_chunk_size};
+use std::alloc::Global;
+use std::io::{Read, Write};
+
+/// The maximum length of an answer's body, in octets.
+pub const ANSWER_MAX: usize = 67_108_864;
+
+/// The maximum length of an answer's head, in octets.
+const HEAD_MAX: usize = 16_384;
+
+/// How many headers an answer has at most.
+const HEADERS_MAX: usize = 32;
+
+/// How many octets are read at once.
+const PART: usize = 65_536;
+
+/// How the body of an answer comes.
+#[derive(Clone, Copy, PartialEq, Eq)]
+enum Framing {
+    /// This many octets.
+    Length(usize),
+    Chunks,
+}
+
+/// The head of an answer.
+#[derive(Clone, Copy)]
+struct Head {
+    status: u16,
+    framing: Framing,
+}
+
+/// A stream on which one request is under way at a time. After a fault it is of no more use.
+#[derive(Drop)]
+pub struct Exchange<S: Read + Write + Drop> {
+    alloc: Global,
+    stream: S,
+    /// What came; the octets before `at` are done with.
+    came: Vec<u8>,
+    at: usize,
+    part: Vec<u8>,
+}
+
+/// What the status says of a request. All but three are no answer: etcd gives one for transactions that are made afterwards too.
+fn served(status: u16) -> Result<(), GatewayFault>
+    ensures { result ≡ served status }
+{
+    match status {
+        200 => Ok(()),
+        400 => Err(GatewayFault::Refused),
+        429 => Err(GatewayFault::Spent),
+        _ => Err(GatewayFault::NoAnswer),
+    }
+}
+
+/// The decimal number that a header's octets are.
+fn decimal(octets: &[u8]) -> Option<usize> {
+    str::from_utf8(octets).ok()?.parse().ok()
+}
+
+/// How the body comes, by the headers.
+fn framing_of(head: &[u8], headers: &[HeaderSpan]) -> Option<Framing> {
+    for header in headers {
+        let name = head.get(header.name.start..header.name.end)?;
+        let value = head.get(header.value.start..header.value.end)?;
+        if name.eq_ignore_ascii_case(b"transfer-encoding") {
+            return value
+                .eq_ignore_ascii_case(b"chunked")
+                .then_some(Framing::Chunks);
+        }
+        if name.eq_ignore_ascii_case(b"content-length") {
+            return Some(Framing::Length(decimal(value)?));
+        }
+    }
+    None
+}
+
+impl<S: Read + Write + Drop> Exchange<S> {
+    pub fn over(alloc: Global, stream: S) -> Result<Exchange<S>, GatewayFault> {
+        Ok(Exchange {
+            alloc,
+            stream,
+            came: Vec::new(alloc),
+            at: 0,
+            part: Vec::from_elem(alloc, 0u8, PART)?,
+        })
+    }
+
+    /// What came and isn't done with.
+    fn left(&self) -> &[u8] {
+        self.came.get(self.at..).unwrap_or(&[])
+    }
+
+    /// This many octets are done with.
+    fn pass(&mut self, count: usize) {
+        self.at = self.at.saturating_add(count).min(self.came.len());
+        if self.at == self.came.len() {
+            self.came.clear();
+            self.at = 0;
+        }
+    }
+
+    /// Waits for more.
+    fn more(&mut self) -> Result<(), GatewayFault> {
+        let count = self.stream.read(&mut self.part)?;
+        let Some(came) = self.part.get(..count) else {
+            return Err(GatewayFault::NoAnswer);
+        };
+        if came.is_empty() {
+            return Err(GatewayFault::NoAnswer);
+        }
+        self.came.extend_from_slice(came)?;
+        Ok(())
+    }
+
+    /// Waits for more of a head or of a chunk's size, which have a limit.
+    fn more_head(&mut self) -> Result<(), GatewayFault> {
+        if self.left().len() > HEAD_MAX {
+            return Err(GatewayFault::Malformed);
+        }
+        self.more()
+    }
+
+    fn send(&mut self, path: &str, body: &str) -> Result<(), GatewayFault> {
+        let length = body.len();
+        let head = format!(in self.alloc;
+            "POST {path} HTTP/1.1\r\nHost: etcd\r\nContent-Type: application/json\r\nContent-Length: {length}\r\n\r\n"
+        )?;
+        self.stream.write_all(head.as_bytes())?;
+        self.stream.write_all(body.as_bytes())?;
+        self.stream.flush()?;
+        Ok(())
+    }
+
+    fn head(&mut self) -> Result<Head, GatewayFault> {
+        for _ in 0..u64::MAX {
+            let mut headers = [EMPTY_HEADER_SPAN; HEADERS_MAX];
+            let left = self.left();
+            match parse_response(left, &mut headers) {
+                Ok(Status::Complete(spans)) => {
+                    let headers = headers.get(..spans.headers).unwrap_or(&[]);
+                    let Some(framing) = framing_of(left, headers) else {
+                        return Err(GatewayFault::Malformed);
+                    };
+                    let status = spans.code;
+                    self.pass(spans.len);
+                    return Ok(Head { status, framing });
+                }
+                Ok(Status::Partial) => self.more_head()?,
+                Err(_) => return Err(GatewayFault::Malformed),
+            }
+        }
+        Err(GatewayFault::NoAnswer)
+    }
+
+    /// Puts this many octets that come next behind others.
+    fn take(&mut self, count: usize, body: &mut Vec<u8>) -> Result<(), GatewayFault>
+        requires { length body.old.items ≤ ANSWER_MAX }
+        ensures { OnOk result (length body.new.items ≤ ANSWER_MAX) }
+    {
+        if count > ANSWER_MAX - body.len() {
+            return Err(GatewayFault::Oversized);
+        }
+        let mut wanted = count;
+        for _ in 0..u64::MAX {
+            let have = self.left().len().min(wanted);
+            if let Some(octets) = self.left().get(..have) {
+                body.extend_from_slice(octets)?;
+            }
+            self.pass(have);
+            wanted -= have;
+            if wanted == 0 {
+                return Ok(());
+            }
+            self.more()?;
+        }
+        Err(GatewayFault::NoAnswer)
+    }
+
+    /// Puts the next chunk behind others. Whether it was the last one, which is empty.
+    fn chunk(&mut self, body: &mut Vec<u8>) -> Result<bool, GatewayFault>
+        requires { length body.old.items ≤ ANSWER_MAX }
+        ensures { OnOk result (length body.new.items ≤ ANSWER_MAX) }
+    {
+        for _ in 0..u64::MAX {
+            match parse_chunk_size(self.left()) {
+                Ok(Status::Complete((length, size))) => {
+                    self.pass(length);
+                    let Ok(size) = usize::try_from(size) else {
+                        return Err(GatewayFault::Oversized);
+                    };
+                    self.take(size, body)?;
+                    let mut line = Vec::new(self.alloc);
+                    self.take(2, &mut line)?;
+                    return Ok(size == 0);
+                }
+                Ok(Status::Partial) => self.more_head()?,
+                Err(_) => return Err(GatewayFault::Malformed),
+            }
+        }
+        Err(GatewayFault::NoAnswer)
+    }
+
+    fn body(&mut self, framing: Framing) -> Result<Vec<u8>, GatewayFault>
+        ensures { IfOk result (λ body. length body.items ≤ ANSWER_MAX) }
+    {
+        let mut body = Vec::new(self.alloc);
+        match framing {
+            Framing::Length(length) => self.take(length, &mut body)?,
+            Framing::Chunks => {
+                for _ in 0..u64::MAX {
+                    if self.chunk(&mut body)? {
+                        break;
+                    }
+                }
+            }
+        }
+        Ok(body)
+    }
+
+    /// Sends a request, and takes the body of its answer.
+    pub fn ask(&mut self, path: &str, text: &str) -> Result<Vec<u8>, GatewayFault>
+        ensures bounded { IfOk result (λ body. length body.items ≤ ANSWER_MAX) }
+    {
+        self.send(path, text)?;
+        let head = self.head()?;
+        let body = self.body(head.framing)?;
+        served(head.status)?;
+        Ok(body)
+    }
+
+    /// Sends a request whose answer is lines without an end.
+    pub fn begin(&mut self, path: &str, text: &str) -> Result<(), GatewayFault> {
+        self.send(path, text)?;
+        let head = self.head()?;
+        served(head.status)
+    }
+
+    /// The next lines of such an answer: the gateway makes a chunk of whole lines.
+    pub fn next_lines(&mut self) -> Result<Vec<u8>, GatewayFault>
+        ensures bounded { IfOk result (λ lines. length lines.items ≤ ANSWER_MAX) }
+    {
+        let mut lines = Vec::new(self.alloc);
+        if self.chunk(&mut lines)? {
+            return Err(GatewayFault::NoAnswer);
+        }
+        Ok(lines)
+    }
+}

@@ -1,4 +1,0 @@
-use Rattle.hdl_scripts.proofs.lanes.doors.work_stream.Given as goal
-
-abbrev pub ghosts-run_stream : goal.ghosts-run_stream
-ghosts-run_stream g a = record { ends = a.pair.ends.items }

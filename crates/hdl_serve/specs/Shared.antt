@@ -1,0 +1,54 @@
+-- What a serving loop does beside other servers: turns of its own, and changes of others that it lets in between them.
+use Rattle.std.specs.Prelude.{◌≡◌, ◌≢◌, ℕ, List, [], ◌∷◌, ◌++◌, Option, Some, None, option_map, All}
+use Rattle.std.specs.List.{AllZip}
+use Rattle.hdl_rows.specs.Table.{Table}
+use Rattle.hdl_ops.specs.Tables.{apply, CanApply}
+use Rattle.hdl_laws.specs.Worlds.{World, with_table}
+use Rattle.hdl_laws.specs.Steps.{Turn, moment_of}
+use Rattle.hdl_laws.specs.Runs.{events, outcomes}
+use Rattle.hdl_together.specs.Together.{ServerTurn, at_server}
+use Rattle.hdl_together.specs.Shared.{Part, Took, TookOver, AreParts, AreOfOthers, IsNextTurn, after_parts, turns_in}
+use Rattle.hdl_workers.specs.declared.ends.LaneEnds.{LaneEnds}
+use Rattle.hdl_serve.specs.declared.news.StampedChange.{StampedChange}
+use Rattle.hdl_serve.specs.Served.{LaneServed, IsOnOne}
+
+-- the parts take over these changes and no others, each once and in order: the table before it can have the change, and the one that is taken over is that table with it
+abbrev pub TakeOver : World → List Part → List StampedChange → Type 0
+TakeOver world [] changes = changes ≡ []
+TakeOver world (Took step ∷ parts) changes = TakeOver step.after parts changes
+TakeOver world (TookOver table ∷ parts) [] = ⊥
+TakeOver world (TookOver table ∷ parts) (next ∷ changes) = CanApply world.table next.change × (table ≡ apply world.table next.moment next.change) × TakeOver (with_table world table) parts changes
+
+-- There is one list of parts from one world to the other: turns, and the tables with the changes that the news gave meanwhile. Each lane gave its events of the turns, and was
+-- given their outcomes; and no turn is of another lane.
+pub record IsShared (w : World) (before : List LaneEnds) (known : List StampedChange) (new : World) (after : List LaneEnds) (later : List StampedChange) : Type 0 where
+  pub parts : List Part
+  pub are : AreParts w parts
+  pub last : after_parts w parts ≡ new
+  pub changes : List StampedChange
+  pub taken_over : TakeOver w parts changes
+  pub news : later ≡ known ++ changes
+  pub lanes : AllZip (LaneServed (events (turns_in parts)) (outcomes (turns_in parts))) before after
+  pub of : All (IsOnOne before) (events (turns_in parts))
+
+-- ---- one list of changes
+
+-- the change of a turn, with the moment of its event
+abbrev pub stamped : Turn → Option StampedChange
+stamped step = option_map (λ change. record { moment = moment_of step.event.what; change = change }) step.change
+
+-- A server's own changes and those that its news gave are the list, in its order: each of its turns with a change is the next one, and each change that it took over is that of the
+-- next one, a turn of another server. What is left of the list is of others.
+abbrev pub FollowsChanges : ℕ → List Part → List StampedChange → List ServerTurn → Type 0
+FollowsChanges server [] news changes = AreOfOthers server changes
+FollowsChanges server (Took step ∷ parts) news changes = IsNextTurn (at_server server step) step.change (FollowsChanges server parts news) changes
+FollowsChanges server (TookOver table ∷ parts) [] changes = ⊥
+FollowsChanges server (TookOver table ∷ parts) (change ∷ news) [] = ⊥
+FollowsChanges server (TookOver table ∷ parts) (change ∷ news) (next ∷ changes) = (next.server ≢ server) × (stamped next.step ≡ Some change) × FollowsChanges server parts news changes
+
+-- ---- a change that doesn't fit
+
+-- a change is seen, and the table can't have it
+abbrev pub IsUnfit : Option StampedChange → Table → Type 0
+IsUnfit None table = ⊥
+IsUnfit (Some next) table = ¬ CanApply table next.change
