@@ -252,6 +252,13 @@ def large_file():
     return "\n".join(["handle,type,data,ttl", *rows]).encode() + b"\n"
 
 
+def wait_for(port, handle, process):
+    """Waits until the handle is there or the process has ended."""
+    with client_of(port) as client:
+        while process.poll() is None and client.asked(wire.resolution(handle))[0] != wire.SUCCESS:
+            time.sleep(0.01)
+
+
 def killed(port):
     """An import that is killed on the way goes on where it stopped, once it is started again."""
     with tempfile.NamedTemporaryFile(suffix=".csv") as file:
@@ -259,7 +266,7 @@ def killed(port):
         file.flush()
         words = [PROGRAM, "import", "--csv", file.name, "--key", KEY, "--server", "127.0.0.1:%d" % port]
         with subprocess.Popen(words, stdin=subprocess.DEVNULL, stdout=subprocess.DEVNULL, stderr=subprocess.DEVNULL, env={**os.environ, "HDL_SECRET": SECRET}) as process:
-            time.sleep(0.3 * servers.SLOWER)
+            wait_for(port, b"10/m000000", process)
             process.kill()
     status, out, err = run(port, large_file())
     found = re.fullmatch(r"(\d+) created, (\d+) there already, 0 failed\n", out)
