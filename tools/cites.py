@@ -4,7 +4,7 @@
 - `FUNCTION` (`CLAUSE`, ..) of README.md, docs/ and crates/*/DECISIONS.md: some function of that name has each clause, or its clauses speak of a record that has a field of that name.
 - CRATE `NAME`, `NAME` (`CLAUSE`, ..), and `NAME` of CRATE: that crate declares each name, and its function has each clause. In docs/PROMISES.md and docs/CLIENT_PROMISES.md a name of a table
   that stands below **CRATE** is that crate's, unless its cell names another one before it.
-- must-fail `NAME`, .. and wrong `NAME`, ..: a crate has an edit of that name in that folder; and docs/WRONG.md names each edit so.
+- must-fail `NAME`, .. and wrong `NAME`, ..: a crate has an edit of that name, in must-fail/ or wrong/gate/, or in wrong/; and docs/WRONG.md names each edit so.
 - vectors `NAME`, ..: crates/hdl_vectors/stdin has a group of that name, which begins with a line `# NAME: WHAT`.
 - [PAGE](PAGE.md#SECTION) of a page: there is such a file, and it has such a heading.
 - docs/PAGE.md, "SECTION" of crates/ and docs/: the page has a heading that begins so.
@@ -210,8 +210,8 @@ def missing_names():
 
 
 def missing_edits():
-    for folder in ("must-fail", "wrong"):
-        edits, named = {os.path.basename(path)[: -len(".edit")] for path in files("crates/*/%s/*.edit" % folder)}, set()
+    for folder, places in (("must-fail", ("must-fail", "wrong/gate")), ("wrong", ("wrong",))):
+        edits, named = {os.path.basename(path)[: -len(".edit")] for path in files(*("crates/*/%s/*.edit" % place for place in places))}, set()
         for path, number, line in pages():
             for cited in re.findall(r"(?<!\ba )" + folder + " " + LIST, line):
                 for edit in re.findall(r"`(\w+)`", cited):

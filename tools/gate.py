@@ -25,6 +25,8 @@ ROOT = os.path.dirname(os.path.dirname(os.path.abspath(__file__)))
 LIMITS = os.path.join(ROOT, "tools/limits.tsv")
 PAGES = ("tools/quotes.py", "tools/map.py", "tools/cites.py", "tools/believed.py", "tools/heads.py", "tools/words.py")
 TEST = ["./test"]
+# It checks over the libraries that ./test made, and uses every processor.
+WRONG = [sys.executable, "tools/wrong.py", "--gate", "--jobs", str(len(os.sched_getaffinity(0)))]
 # They run programs that ./test proved and built.
 PARTS = (
     ["tools/refuse-memory"],
@@ -170,12 +172,12 @@ def main():
     with spent.Spent() as part:
         counts.append(proved())
     by_part = {name_of(TEST): (part.seconds, time.monotonic() - began)}
-    for name, (count, seconds, clock) in try_all(PARTS).items():
+    for name, (count, seconds, clock) in {name_of(WRONG): tried(WRONG), **try_all(PARTS)}.items():
         counts.append(count)
         by_part[name] = seconds, clock
     told(part.by_place, by_part, (time.monotonic() - began) / 60)
     left = len(glob.glob(os.path.join(ROOT, "crates/*/wrong/*.edit")))
-    print("the %d wrong bodies of crates/*/wrong/ weren't tried by this run: tools/wrong.py tries them, and ./check those of crates that changed" % left)
+    print("the %d wrong bodies right in crates/*/wrong/ weren't tried by this run: tools/wrong.py tries them, and ./check those of crates that changed" % left)
     passed, failed = (sum(column) for column in zip(*counts))
     if not failed:
         release.note_passed()

@@ -1,10 +1,12 @@
 #!/usr/bin/env python3
-"""wrong.py [--all] [--jobs N] [CRATE..]: tries the wrong bodies of crates/CRATE/wrong/, and with --all those of must-fail/ too, of these crates or of all: the check must refuse each.
+"""wrong.py [--all | --gate] [--jobs N] [CRATE..]: tries the wrong bodies of crates/CRATE/wrong/ and wrong/gate/, and with --all those of must-fail/ too, of these crates or of all: the check must refuse each.
 
 The edits of a crate are tried together: one text has as many of them as change functions of their own, it is checked once, and each of these functions must be refused by a goal of its own. A caller
 rests on a function's contract and not on its body, so a wrong body beside another changes nothing of its verdict. What isn't told so is tried alone, as are edits of constants and definitions. A
 crate that isn't proved is proved first, and each check begins with what that kept. --jobs N tries N crates at a time, with one check of one job each, as far as there is memory for one more. With --all it notes
 for tools/release.py which crates it tried without a failure, if no file differs from the commit.
+
+With --gate it tries those of wrong/gate/ alone, behind `rt ci`, which has proved every crate and kept nothing of its work: so a check is of the changed functions and those that they call, and proves nothing else once more.
 
 An edit that can't be applied, doesn't compile, or is refused only since a proof names what it took away has failed. The last line is 'N passed, M failed'."""
 
@@ -103,8 +105,13 @@ class Edit:
     def functions(self, texts):
         """The functions whose bodies it changes, or None if it changes something else too. A change is within a line, so these are their lines behind it too."""
         found = {function_at(file, texts[file], texts[file].index(old)) for file, old, _ in self.changes if file.startswith("src/") and old in texts[file]}
-        is_body = all(file.startswith("src/") and not re.search(r"\b(?:ensures|requires|fn|use) ", old + new) for file, old, new in self.changes)
+        is_body = all(file.startswith("src/") and not re.search(r"\b(?:ensures|requires|fn|use) ", behind_head(old, new) + behind_head(new, old)) for file, old, new in self.changes)
         return found if found and is_body and None not in found else None
+
+
+def behind_head(text, other):
+    """A text without the head that it has in common with another one, if a body begins behind that on the same line."""
+    return text[os.path.commonprefix((text, other)).rfind("{") + 1:]
 
 
 def owner_at(lines, first):
@@ -157,8 +164,17 @@ def texts_of(crate):
     return {os.path.relpath(path, crate.folder): open(path, encoding="utf-8").read() for path in files}
 
 
-def checked(crate, changed):
-    """What a check says of the crate with these texts for its own, over a copy of what was kept of it. A check replaces files of proofs and changes none, so these are not copied but named twice."""
+def path_of(function):
+    """The path by which a check knows a function, below the crate."""
+    return "::".join(filter(None, [*module_of(function).split("/"), function.owner, function.name]))
+
+
+def module_of(function):
+    return re.sub(r"^(?:src/)(?:lib|main)?|\.rt$", "", function.file)
+
+
+def checked(crate, changed, only=()):
+    """What a check says of the crate with these texts for its own, or of these functions alone, over a copy of what was kept of it. A check replaces files of proofs and changes none, so these are not copied but named twice."""
     with tempfile.TemporaryDirectory(prefix="wrong-") as room:
         for part in PARTS:
             if os.path.isdir(f"{crate.folder}/{part}"):
@@ -167,6 +183,7 @@ def checked(crate, changed):
             with open(f"{room}/{file}", "w", encoding="utf-8") as written:
                 written.write(text)
         words = [*kit().guarded(), kit().RATTLE, "check", *crate.words(["--jobs", "1"], keeps=False)]
+        words += [word for function in sorted(only) for word in ("--only", path_of(function))]
         kept = f"{crate.folder}/out/incremental"
         if os.path.isdir(kept):
             shutil.copytree(kept, f"{room}/kept", copy_function=lambda one, other: (os.link if one.endswith(".oantt") else shutil.copy2)(one, other))
@@ -180,7 +197,7 @@ def checked(crate, changed):
 
 
 def is_refusal(said):
-    return said.status == 1 and said.lines[-1].startswith("logic=not-proved")
+    return said.status == 1 and said.lines[-1].startswith(("logic=not-proved", "only="))
 
 
 def faults(said):
@@ -193,7 +210,7 @@ def faults(said):
 
 def is_told(crate, function, said):
     """Whether a check says of this very function that it isn't proved, and of which goal of its own."""
-    module = re.sub(r"^(?:src/)(?:lib|main)?|\.rt$", "", function.file)
+    module = module_of(function)
     path = "::".join([crate.name, *filter(None, module.split("/"))])
     own = re.compile(r"fn %s::(?:%s\w*::)?(?:fn::)?%s(?:::\S+)?: (?:not proved|no proof: .*did not prove .*)" % (path, function.owner or "-", function.name))
     proofs = re.compile(r"proofs/%s/?(?:%s\w*/)?%s/.*" % (module, function.owner or "-", function.name))
@@ -229,20 +246,20 @@ def told_together(crate, together, texts, check):
     if len(together) == 1:
         return []
     try:
-        said = check(functools.reduce(lambda made, one: one[0].applied(made), together, texts))
+        said = check(functools.reduce(lambda made, one: one[0].applied(made), together, texts), set().union(*(functions for _, functions in together)))
     except Unfit:
         # one edit's text has what another one replaces
         return []
     return [edit for edit, functions in together if is_refusal(said) and all(is_told(crate, one, said) for one in functions)]
 
 
-def tried(crate, edits, memory):
+def tried(crate, edits, memory, by_function=False):
     """Tries the edits of a crate, all together as far as that tells each, and prints each verdict once it is known, and what all took. Answers how many are refused, and how many aren't."""
     texts, seen, counts = texts_of(crate), [], collections.Counter()
 
-    def check(made):
+    def check(made, changed):
         with memory.taken(lanes.needed(crate)):
-            seen.append(checked(crate, {file: text for file, text in made.items() if text != texts[file]}))
+            seen.append(checked(crate, {file: text for file, text in made.items() if text != texts[file]}, changed if by_function else ()))
         return seen[-1]
 
     def tell(edit, what):
@@ -260,8 +277,8 @@ def tried(crate, edits, memory):
         for edit in told_together(crate, together, texts, check):
             tell(edit, REFUSED)
             together = [one for one in together if one[0] is not edit]
-        for edit, _ in together:
-            tell(edit, verdict(check(edit.applied(texts)), {file for file, _, _ in edit.changes}))
+        for edit, functions in together:
+            tell(edit, verdict(check(edit.applied(texts), functions), {file for file, _, _ in edit.changes}))
     print("%s: %d wrong bodies, %d checks, %.0f processor seconds\n" % (crate.name, len(edits), len(seen), sum(said.seconds for said in seen)), end="", flush=True)
     return counts[True], counts[False]
 
@@ -278,7 +295,9 @@ def prove(names, jobs):
 
 def words_of(given):
     words = argparse.ArgumentParser(prog="tools/wrong.py", description=__doc__.split("\n\n", maxsplit=1)[0])
-    words.add_argument("--all", action="store_true", help="those of must-fail/ too")
+    which = words.add_mutually_exclusive_group()
+    which.add_argument("--all", action="store_true", help="those of must-fail/ too")
+    which.add_argument("--gate", action="store_true", help="those of wrong/gate/ alone, by the functions that they change, over the libraries of `rt ci`")
     words.add_argument("--jobs", type=int, default=1, metavar="N", help="so many crates at a time")
     words.add_argument("crates", nargs="*", metavar="CRATE")
     found = words.parse_args(given)
@@ -292,19 +311,19 @@ def words_of(given):
 def main():
     os.chdir(repository.ROOT)
     words = words_of(sys.argv[1:])
-    folders = ("must-fail", "wrong") if words.all else ("wrong",)
+    folders = ("wrong/gate",) if words.gate else ("must-fail", "wrong/gate", "wrong") if words.all else ("wrong/gate", "wrong")
     edits = {name: [Edit(path) for folder in folders for path in sorted(glob.glob(f"crates/{name}/{folder}/*.edit"))] for name in words.crates or repository.stands_on()}
     edits = {name: found for name, found in edits.items() if found}
     if not lanes.knows_kit():
         sys.exit("wrong.py: it calls inner parts of the kit, and KITS of tools/lanes.py doesn't list this one: see that both still hold with it, and list it there")
-    if prove(list(edits), words.jobs):
+    if not words.gate and prove(list(edits), words.jobs):
         sys.exit("wrong.py: a crate isn't proved as it stands, so nothing was tried: mend what the lines above say first")
     crates = {crate.name: crate for crate in kit().crates_below(repository.ROOT)}
     # the largest first, so that none of them is left for the end
     order = sorted(edits, key=lambda name: -crates[name].count(rb"\n"))
     memory = Memory(lanes.free)
     with concurrent.futures.ThreadPoolExecutor(words.jobs) as pool:
-        counts = list(pool.map(lambda name: tried(crates[name], edits[name], memory), order))
+        counts = list(pool.map(lambda name: tried(crates[name], edits[name], memory, words.gate), order))
     if words.all:
         release.note_refused([name for name, (_, failed) in zip(order, counts) if not failed])
     passed, failed = (sum(column) for column in zip((0, 0), *counts))
