@@ -29,4 +29,4 @@ pub use tenants::tenants_of;
 pub use words::{status_of_words, words_of};
 
 /// The version of the product, and the kit that it is proved with.
-pub const VERSION: &str = "0.1.0 (Buckramjade; rattle-kit-13b logic dac8208d650f15bf)";
+pub const VERSION: &str = "0.1.0 (Buckramjade; rattle-kit-13f logic dac8208d650f15bf)";
