@@ -1,5 +1,7 @@
 //! What a change does to the keys of handles and values.
 
+ghost use Rattle.hdl_members.specs.List.{Writes, Makes};
+
 use crate::messages::{handle_octets, value_octets};
 use hdl_entries::{Key, key_of};
 use hdl_gateway::Operation;
@@ -16,7 +18,9 @@ pub(crate) struct KeyWrite {
 }
 
 impl KeyWrite {
-    pub(crate) fn put(key: Vec<u8>, value: Vec<u8>) -> KeyWrite {
+    pub(crate) fn put(key: Vec<u8>, value: Vec<u8>) -> KeyWrite
+        ensures { Writes key.items value.items result }
+    {
         KeyWrite {
             key,
             value: Some(value),
@@ -28,7 +32,9 @@ impl KeyWrite {
     }
 
     /// The operation of a transaction.
-    pub(crate) fn operation(&self) -> Operation<'_> {
+    pub(crate) fn operation(&self) -> Operation<'_>
+        ensures { Makes self.now result }
+    {
         match &self.value {
             Some(value) => Operation::Put(&self.key, value),
             None => Operation::Delete(&self.key),

@@ -1,5 +1,14 @@
 //! The list of changes in etcd.
 
+ghost use Rattle.std.specs.Prelude.{◌≡◌, ◌∷◌, [], Some, IfOk, OnOk, OnErr, string_bytes};
+ghost use Rattle.std.specs.List.{Any};
+ghost use Rattle.serde_json.specs.Read.{read};
+ghost use Rattle.hdl_entries.specs.Chain.{place_of, after_entry};
+ghost use Rattle.hdl_entries.specs.Keys.{key_octets, chain_octets};
+ghost use Rattle.hdl_gateway.specs.Asking.{transaction_json};
+ghost use Rattle.hdl_gateway.specs.declared.asking.Transaction.{Transaction};
+ghost use Rattle.hdl_members.specs.List.{Follow, FollowsOne, Writes, IsFenced, IsPut};
+
 use crate::fault::ListFault;
 use crate::keyed::{KeyWrite, KeyWrites};
 use crate::members::Members;
@@ -83,11 +92,15 @@ impl<R: Net<Stream = TcpStream>> SharedList<R> {
     }
 
     /// How many entries were taken.
-    pub fn number(&self) -> u64 {
+    pub fn number(&self) -> u64
+        ensures { result ≡ self.now.chain.number }
+    {
         self.chain.number
     }
 
-    pub(crate) fn key(&self, key: Key<'_>) -> Result<Vec<u8>, AllocError> {
+    pub(crate) fn key(&self, key: Key<'_>) -> Result<Vec<u8>, AllocError>
+        ensures { IfOk result (λ octets. octets.items ≡ key_octets self.now.name.items key.entry) }
+    {
         key_of(self.alloc, &self.name, key)
     }
 
@@ -97,7 +110,9 @@ impl<R: Net<Stream = TcpStream>> SharedList<R> {
         keys: &Keys<'_>,
         limit: u32,
         revision: &str,
-    ) -> Result<Page, ListFault> {
+    ) -> Result<Page, ListFault>
+        ensures same { (self.new.chain ≡ self.old.chain) × (self.new.name ≡ self.old.name) }
+    {
         let text = range_text(self.alloc, keys, limit, revision)?;
         let mut fault = GatewayFault::NoAnswer;
         for _ in 0..self.members.count() {
@@ -137,7 +152,9 @@ impl<R: Net<Stream = TcpStream>> SharedList<R> {
     }
 
     /// The keys of the values of a handle.
-    fn value_keys(&mut self, handle: &Name) -> Result<Vec<KeyWrite>, ListFault> {
+    fn value_keys(&mut self, handle: &Name) -> Result<Vec<KeyWrite>, ListFault>
+        ensures same { (self.new.chain ≡ self.old.chain) × (self.new.name ≡ self.old.name) }
+    {
         let mut from = self.key(Key::Value(handle, 0))?;
         let length = from.len();
         let last = self.key(Key::Value(handle, u32::MAX))?;
@@ -171,7 +188,9 @@ impl<R: Net<Stream = TcpStream>> SharedList<R> {
         &self,
         writes: &[KeyWrite],
         otherwise: &[u8],
-    ) -> Result<String, AllocError> {
+    ) -> Result<String, AllocError>
+        ensures { IfOk result (λ text. (t : Transaction) × IsFenced self.now.name.items self.now.chain writes.now otherwise.now t × (read (string_bytes text) ≡ Some (transaction_json t))) }
+    {
         let mut operations: Vec<Operation<'_>> = Vec::new(self.alloc);
         for write in writes {
             operations.push(write.operation())?;
@@ -194,12 +213,18 @@ impl<R: Net<Stream = TcpStream>> SharedList<R> {
     }
 
     /// Sends a transaction, and takes its answer.
-    pub(crate) fn ask_transaction(&mut self, text: &str) -> Result<Vec<u8>, GatewayFault> {
+    pub(crate) fn ask_transaction(&mut self, text: &str) -> Result<Vec<u8>, GatewayFault>
+        ensures same { (self.new.chain ≡ self.old.chain) × (self.new.name ≡ self.old.name) }
+    {
         self.members.ask("/v3/kv/txn", text)
     }
 
     /// The next entry, with this change.
-    fn next_entry(&mut self, message: DatedMessage) -> Result<Entry, ListFault> {
+    fn next_entry(&mut self, message: DatedMessage) -> Result<Entry, ListFault>
+        ensures next { IfOk result (λ entry. place_of self.old.chain entry ≡ Place.Next) }
+        ensures changes { IfOk result (λ entry. entry.changes ≡ message ∷ []) }
+        ensures same { (self.new.chain ≡ self.old.chain) × (self.new.name ≡ self.old.name) }
+    {
         let Some(number) = self.chain.number.checked_add(1) else {
             return Err(ListFault::Layout);
         };
@@ -221,7 +246,11 @@ impl<R: Net<Stream = TcpStream>> SharedList<R> {
         writes: &mut Vec<KeyWrite>,
         number: u64,
         octets: Vec<u8>,
-    ) -> Result<Chain, AllocError> {
+    ) -> Result<Chain, AllocError>
+        ensures behind { IfOk result (λ behind. behind ≡ after_entry number octets.items) }
+        ensures entry { OnOk result (Any (Writes (key_octets self.now.name.items (Key.Entry number)) octets.items) writes.new.items) }
+        ensures head { IfOk result (λ behind. Any (Writes (key_octets self.now.name.items Key.Head) (chain_octets behind)) writes.new.items) }
+    {
         let behind = Chain::behind(number, &octets);
         let head = write_chain(self.alloc, &behind)?;
         writes.push(KeyWrite::put(self.key(Key::Head)?, head))?;
@@ -238,7 +267,10 @@ impl<R: Net<Stream = TcpStream>> SharedList<R> {
         &mut self,
         message: DatedMessage,
         mut writes: Vec<KeyWrite>,
-    ) -> Result<Put, ListFault> {
+    ) -> Result<Put, ListFault>
+        ensures put { IfOk result (λ put. IsPut self.old.name.items self.old.chain message put.nonce put.behind (string_bytes put.text)) }
+        ensures same { (self.new.chain ≡ self.old.chain) × (self.new.name ≡ self.old.name) }
+    {
         if message.message.as_slice().len() > MESSAGE_MAX as usize {
             return Err(ListFault::Member(GatewayFault::Refused));
         }
@@ -255,7 +287,10 @@ impl<R: Net<Stream = TcpStream>> SharedList<R> {
     }
 
     /// Puts a change into words, to stand behind those that were taken. The message is that of the change. For a delete etcd is asked for the keys of the handle's values.
-    pub fn put_of(&mut self, message: DatedMessage, change: &Change) -> Result<Put, ListFault> {
+    pub fn put_of(&mut self, message: DatedMessage, change: &Change) -> Result<Put, ListFault>
+        ensures put { IfOk result (λ put. IsPut self.old.name.items self.old.chain message put.nonce put.behind (string_bytes put.text)) }
+        ensures same { (self.new.chain ≡ self.old.chain) × (self.new.name ≡ self.old.name) }
+    {
         let mut writes = match change {
             Change::Delete { name } => self.value_keys(name)?,
             _ => Vec::new(self.alloc),
@@ -278,7 +313,11 @@ impl<R: Net<Stream = TcpStream>> SharedList<R> {
     }
 
     /// Sends the change. Without an answer nobody can tell what became of it: it is then sent again as it is.
-    pub fn send(&mut self, put: &Put) -> Result<Sent, ListFault> {
+    pub fn send(&mut self, put: &Put) -> Result<Sent, ListFault>
+        ensures made { IfOk result (λ sent. sent ≡ Sent.Made → self.new.chain ≡ put.now.behind) }
+        ensures lost { IfOk result (λ sent. sent ≡ Sent.Lost → self.new.chain ≡ self.old.chain) }
+        ensures fault { OnErr result (self.new.chain ≡ self.old.chain) }
+    {
         let body = self.ask_transaction(put.text.as_str())?;
         let is_made = match outcome_of(self.alloc, &body)? {
             Outcome::Made => true,
@@ -292,7 +331,9 @@ impl<R: Net<Stream = TcpStream>> SharedList<R> {
     }
 
     /// The entry that the octets are, if it is the next one, which is taken then. An earlier one isn't.
-    fn take_entry(&mut self, octets: &[u8]) -> Result<Option<Entry>, ListFault> {
+    fn take_entry(&mut self, octets: &[u8]) -> Result<Option<Entry>, ListFault>
+        ensures { IfOk result (FollowsOne self.old.chain self.new.chain) }
+    {
         let entry = read_entry(self.alloc, octets)?;
         let behind = Chain::behind(entry.number, octets);
         match self.chain.place_of(&entry) {
@@ -308,7 +349,9 @@ impl<R: Net<Stream = TcpStream>> SharedList<R> {
         }
     }
 
-    fn take_page(&mut self, pairs: &[Pair]) -> Result<Vec<Entry>, ListFault> {
+    fn take_page(&mut self, pairs: &[Pair]) -> Result<Vec<Entry>, ListFault>
+        ensures { IfOk result (λ entries. Follow self.old.chain self.new.chain entries.items) }
+    {
         if pairs.is_empty() && self.chain.number > 0 {
             return Err(ListFault::WentBack(self.chain.number));
         }
@@ -322,7 +365,10 @@ impl<R: Net<Stream = TcpStream>> SharedList<R> {
     }
 
     /// The entries that stand behind those that were taken, and are taken now: a thousand at most, none if there are no more. After a fault none was taken.
-    pub fn next_entries(&mut self) -> Result<Vec<Entry>, ListFault> {
+    pub fn next_entries(&mut self) -> Result<Vec<Entry>, ListFault>
+        ensures read { IfOk result (λ entries. Follow self.old.chain self.new.chain entries.items) }
+        ensures fault { OnErr result (self.new.chain ≡ self.old.chain) }
+    {
         // the last one that was taken is read too: it tells whether the list is still the same
         let from = self.key(Key::Entry(self.chain.number.max(1)))?;
         let last = self.key(Key::Entry(u64::MAX))?;

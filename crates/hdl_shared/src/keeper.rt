@@ -331,12 +331,15 @@ impl<R: Net<Stream = TcpStream> + Clock + Eprint + Drop> Keeper<R> {
         ended.store(true, SeqCst);
     }
 
-    /// Waits until something is ordered, or until it is time to look.
+    /// Waits until something is ordered, or until it is time to look. The server is woken as long as it hasn't taken all that it was told.
     fn rest<W: Waking>(&mut self, waking: &W) {
+        waking.wake();
         for _ in 0..WAITS {
-            waking.wake();
             if self.orders.sees() {
                 return;
+            }
+            if self.standing.behind() > 0 {
+                waking.wake();
             }
             self.wait();
         }

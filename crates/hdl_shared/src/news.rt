@@ -61,4 +61,8 @@ impl News for EtcdNews {
         }
         self.is_offered.store(false, SeqCst);
     }
+
+    fn leave(&mut self) {
+        self.is_offered.store(false, SeqCst);
+    }
 }
