@@ -54,8 +54,8 @@ next_place chain entry number before =
     let same : bytes_eq entry.before chain.sum ≡ true = (bytes_eq-Decides entry.before chain.sum).1 before in
     rw (past, near, same) refl
 
-pub any_push : {X : Type 0} (P : X → Type 0) (xs : List X) (y : X) → Any P xs → Any P (xs ++ y ∷ [])
-any_push P xs y (k, x, lt, at, p) = (k, x, grind (arith, common_steps), grind (arith, common_steps), p)
+pub any_front : {X : Type 0} (P : X → Type 0) (xs more : List X) → Any P xs → Any P (xs ++ more)
+any_front P xs more (k, x, lt, at, p) = (k, x, grind (arith, common_steps), grind (arith, common_steps), p)
 
 one_made : (write : KeyWrite) (operation : Operation) (key value : List ℕ) → Makes write operation → Writes key value write → Puts key value operation
 one_made write (Put at octets) key value makes writes = (makes.0 ∙ writes.0, cc)

@@ -1,12 +1,13 @@
 //! The list of changes in etcd.
 
-ghost use Rattle.std.specs.Prelude.{◌≡◌, ◌∷◌, [], Some, IfOk, OnOk, OnErr, string_bytes};
+ghost use Rattle.std.specs.Prelude.{◌≡◌, ◌++◌, ◌∷◌, [], List, Some, IfOk, OnOk, OnErr, string_bytes};
 ghost use Rattle.std.specs.List.{Any};
 ghost use Rattle.serde_json.specs.Read.{read};
 ghost use Rattle.hdl_entries.specs.Chain.{place_of, after_entry};
 ghost use Rattle.hdl_entries.specs.Keys.{key_octets, chain_octets};
 ghost use Rattle.hdl_gateway.specs.Asking.{transaction_json};
 ghost use Rattle.hdl_gateway.specs.declared.asking.Transaction.{Transaction};
+ghost use Rattle.hdl_members.specs.declared.keyed.KeyWrite.{KeyWrite};
 ghost use Rattle.hdl_members.specs.List.{Follow, FollowsOne, Writes, IsFenced, IsPut};
 
 use crate::fault::ListFault;
@@ -240,6 +241,17 @@ impl<R: Net<Stream = TcpStream>> SharedList<R> {
         })
     }
 
+    /// Has the entry go that has been there for so long.
+    fn drop_old(&self, writes: &mut Vec<KeyWrite>, number: u64) -> Result<(), AllocError>
+        ensures { (more : List KeyWrite) × (writes.new.items ≡ writes.old.items ++ more) }
+    {
+        if number > KEPT {
+            let old = self.key(Key::Entry(number - KEPT))?;
+            writes.push(KeyWrite::delete(old))?;
+        }
+        Ok(())
+    }
+
     /// What the put of an entry writes beside what its change writes: the head, the entry, and that an old one goes.
     fn put_entry(
         &self,
@@ -255,10 +267,7 @@ impl<R: Net<Stream = TcpStream>> SharedList<R> {
         let head = write_chain(self.alloc, &behind)?;
         writes.push(KeyWrite::put(self.key(Key::Head)?, head))?;
         writes.push(KeyWrite::put(self.key(Key::Entry(number))?, octets))?;
-        if number > KEPT {
-            let old = self.key(Key::Entry(number - KEPT))?;
-            writes.push(KeyWrite::delete(old))?;
-        }
+        self.drop_old(writes, number)?;
         Ok(behind)
     }
 
