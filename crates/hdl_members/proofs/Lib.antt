@@ -1,1 +1,1 @@
-mod List
+mod Sequence

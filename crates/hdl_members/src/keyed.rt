@@ -1,6 +1,6 @@
 //! What a change does to the keys of handles and values.
 
-ghost use Rattle.hdl_members.specs.List.{Writes, Makes};
+ghost use Rattle.hdl_members.specs.Sequence.{Writes, Makes};
 
 use crate::messages::{handle_octets, value_octets};
 use hdl_entries::{Key, key_of};

@@ -1,21 +1,21 @@
 //! The list of changes in etcd.
 
-ghost use Rattle.std.specs.Prelude.{◌≡◌, ◌++◌, ◌∷◌, [], List, Some, IfOk, OnOk, OnErr, string_bytes};
-ghost use Rattle.std.specs.List.{Any};
+ghost use Rattle.std.specs.Prelude.{◌≡◌, ℕ, ◌++◌, ◌∷◌, [], List, Some, IfOk, OnOk, OnErr, string_bytes};
+ghost use Rattle.std.specs.List.{AllZip, Any};
 ghost use Rattle.serde_json.specs.Read.{read};
 ghost use Rattle.hdl_entries.specs.Chain.{place_of, after_entry};
 ghost use Rattle.hdl_entries.specs.Keys.{key_octets, chain_octets};
 ghost use Rattle.hdl_gateway.specs.Asking.{transaction_json};
 ghost use Rattle.hdl_gateway.specs.declared.asking.Transaction.{Transaction};
 ghost use Rattle.hdl_members.specs.declared.keyed.KeyWrite.{KeyWrite};
-ghost use Rattle.hdl_members.specs.List.{Follow, FollowsOne, Writes, IsFenced, IsPut};
+ghost use Rattle.hdl_members.specs.Sequence.{Follow, FollowsOne, Writes, Makes, IsAsTaken, IsFenced, IsPut};
 
 use crate::fault::ListFault;
 use crate::keyed::{KeyWrite, KeyWrites};
 use crate::members::Members;
 use hdl_entries::{
-    Chain, DatedMessage, Entry, Key, Place, key_of, read_chain, read_entry, write_chain,
-    write_entry,
+    Chain, DatedMessage, Entry, Key, Place, entry_read_as_spelt, key_of, read_chain, read_entry,
+    write_chain, write_entry,
 };
 use hdl_gateway::{
     Fence, GatewayFault, Keys, Operation, Outcome, Page, Pair, Transaction, outcome_of, page_of,
@@ -72,6 +72,28 @@ fn with_last(alloc: Global, last: &[u8]) -> Result<Vec<u8>, AllocError> {
     let mut to = Vec::from_slice(alloc, last)?;
     to.push(0)?;
     Ok(to)
+}
+
+/// The operations that make these writes.
+fn operations_of(alloc: Global, writes: &[KeyWrite]) -> Result<Vec<Operation<'_>>, AllocError>
+    ensures { IfOk result (λ all. AllZip Makes writes.now all.items) }
+{
+    let mut operations = Vec::new(alloc);
+    for write in writes {
+        operations.push(write.operation())?;
+    }
+    Ok(operations)
+}
+
+/// That the head has these octets, which are those of the chain; if the chain has no entry, that it isn't there.
+fn fence_of<'a>(chain: &Chain, head: &'a [u8], octets: &'a [u8]) -> Fence<'a>
+    ensures { (name : List ℕ) → head.now ≡ key_octets name Key.Head → octets.now ≡ chain_octets chain.now → IsAsTaken name chain.now result }
+{
+    if chain.number == 0 {
+        Fence::IsAbsent(head)
+    } else {
+        Fence::Has(head, octets)
+    }
 }
 
 impl<R: Net<Stream = TcpStream>> SharedList<R> {
@@ -192,21 +214,13 @@ impl<R: Net<Stream = TcpStream>> SharedList<R> {
     ) -> Result<String, AllocError>
         ensures { IfOk result (λ text. (t : Transaction) × IsFenced self.now.name.items self.now.chain writes.now otherwise.now t × (read (string_bytes text) ≡ Some (transaction_json t))) }
     {
-        let mut operations: Vec<Operation<'_>> = Vec::new(self.alloc);
-        for write in writes {
-            operations.push(write.operation())?;
-        }
+        let operations = operations_of(self.alloc, writes)?;
         let head = self.key(Key::Head)?;
         let chain = write_chain(self.alloc, &self.chain)?;
-        let fence = if self.chain.number == 0 {
-            Fence::IsAbsent(&head)
-        } else {
-            Fence::Has(&head, &chain)
-        };
         transaction_text(
             self.alloc,
             &Transaction {
-                fence,
+                fence: fence_of(&self.chain, &head, &chain),
                 operations: &operations,
                 otherwise,
             },
@@ -343,6 +357,7 @@ impl<R: Net<Stream = TcpStream>> SharedList<R> {
     fn take_entry(&mut self, octets: &[u8]) -> Result<Option<Entry>, ListFault>
         ensures { IfOk result (FollowsOne self.old.chain self.new.chain) }
     {
+        entry_read_as_spelt();
         let entry = read_entry(self.alloc, octets)?;
         let behind = Chain::behind(entry.number, octets);
         match self.chain.place_of(&entry) {

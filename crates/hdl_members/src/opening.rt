@@ -63,12 +63,17 @@ fn firsts_of<'a>(
 }
 
 impl<R: Net<Stream = TcpStream>> SharedList<R> {
-    /// Notes that a handle which is there was opened, if the list is as it was taken. Whether it was noted.
-    fn note_opened(&mut self, name: &Name) -> Result<bool, ListFault> {
+    /// The transaction by which a handle is noted as opened.
+    fn opened_text(&self, name: &Name) -> Result<String, AllocError> {
         let mut writes = KeyWrites::new(self.alloc, &self.name);
         writes.put_opened(name)?;
         let head = self.key(Key::Head)?;
-        let text = self.transaction(writes.all.as_slice(), &head)?;
+        self.transaction(writes.all.as_slice(), &head)
+    }
+
+    /// Notes that a handle which is there was opened, if the list is as it was taken. Whether it was noted.
+    fn note_opened(&mut self, name: &Name) -> Result<bool, ListFault> {
+        let text = self.opened_text(name)?;
         let body = self.ask_transaction(text.as_str())?;
         Ok(matches!(outcome_of(self.alloc, &body)?, Outcome::Made))
     }

@@ -1,4 +1,4 @@
-use Rattle.hdl_members.specs.List.{Follow}
+use Rattle.hdl_members.specs.Sequence.{Follow}
 use Rattle.hdl_members.proofs.list.SharedList.take_page.Given as goal
 
 abbrev pub invariant-loop-pair : goal.invariant-loop-pair

@@ -54,15 +54,15 @@ Makes write (Delete at) = (at.now ≡ write.key.items) × (write.value ≡ None)
 pub record IsFenced (name : List ℕ) (chain : Chain) (writes : List KeyWrite) (otherwise : List ℕ) (transaction : Transaction) : Type 0 where
   pub fence : IsAsTaken name chain transaction.fence
   pub operations : AllZip Makes writes transaction.operations.now
-  pub otherwise : transaction.otherwise.now ≡ otherwise
+  pub reads : transaction.otherwise.now ≡ otherwise
 
 -- The text is a transaction, which is made only if the head is as it was taken. It puts one entry behind those that were taken, with this change and nonce, and the head with it.
 pub record IsPut (name : List ℕ) (chain : Chain) (change : DatedMessage) (nonce : List ℕ) (behind : Chain) (text : List ℕ) : Type 0 where
   pub entry : Entry
   pub next : place_of chain entry ≡ Next
   pub changes : entry.changes ≡ change ∷ []
-  pub nonce : entry.nonce ≡ nonce
-  pub behind : behind ≡ after_entry entry.number (entry_octets entry)
+  pub is_own : entry.nonce ≡ nonce
+  pub is_behind : behind ≡ after_entry entry.number (entry_octets entry)
   pub transaction : Transaction
   pub reads : read text ≡ Some (transaction_json transaction)
   pub fence : IsAsTaken name chain transaction.fence
