@@ -1,5 +1,5 @@
 -- What is read of the list, and what is put behind it.
-use Rattle.std.proofs.Common.{◌≡◌, ℕ, suc, ◌+◌, ◌<◌, ◌≤◌, List, [], ◌∷◌, ◌++◌, length, take, get_or, Option, Some, None, Ok, Bool, true, false, refl, sym, ap, ◌∙◌, subst, arith}
+use Rattle.std.proofs.Common.{◌≡◌, ℕ, zero, suc, ◌+◌, ◌<◌, ◌≤◌, List, [], ◌∷◌, ◌++◌, length, take, get_or, Option, Some, None, Ok, Bool, true, false, refl, sym, ap, ◌∙◌, subst, arith}
 use Rattle.std.specs.Prelude.{Result, ok_or, nat_le, nat_lt, option_map}
 use Rattle.std.specs.List.{AllZip, Any}
 use Rattle.std.specs.Str.{bytes_eq}
@@ -75,7 +75,7 @@ one_made write (Delete at) key value makes writes = absurd cc
 pub any_made : (writes : List KeyWrite) (operations : List Operation) (key value : List ℕ) → AllZip Makes writes operations → Any (Writes key value) writes → Any (Puts key value) operations
 any_made [] operations key value made (k, x, lt, at, w) = absurd (omega (arith, lt))
 any_made (write ∷ writes) [] key value made any = absurd made
-any_made (write ∷ writes) (operation ∷ operations) key value made (0, x, lt, at, w) = (0, operation, omega arith, refl, one_made write operation key value made.0 (subst (Writes key value) (sym at) w))
+any_made (write ∷ writes) (operation ∷ operations) key value made (zero, x, lt, at, w) = (0, operation, omega arith, refl, one_made write operation key value made.0 (subst (Writes key value) (sym at) w))
 any_made (write ∷ writes) (operation ∷ operations) key value made (suc k, x, lt, at, w) =
     let later = any_made writes operations key value made.1 (k, x, omega (arith, lt), at, w) in
     (suc later.0, later.1, omega (arith, later.2), later.3, later.4)
