@@ -32,4 +32,4 @@ pub use hdl_members::{GatewayFault, ListFault, Loading, Standing};
 pub use journal::EtcdJournal;
 pub use keeper::{Keeper, Waking};
 pub use news::EtcdNews;
-pub use start::{Beside, SharedRows, beside};
+pub use start::{Beside, SharedRows, prepare};

@@ -35,7 +35,7 @@ struct Rings {
     ends: KeeperEnds,
 }
 
-fn rings(alloc: Global, standing: &Arc<Standing>) -> Result<Rings, AllocError>
+fn new_rings(alloc: Global, standing: &Arc<Standing>) -> Result<Rings, AllocError>
     ensures journal { IfOk result (λ r. taken_from r.journal.written ≡ []) }
     ensures news { IfOk result (λ r. taken_from r.news.changes ≡ []) }
 {
@@ -74,7 +74,7 @@ pub struct Beside<R, A: Alarm + Drop> {
 }
 
 /// What a server has beside others that use the same members and name: an empty table, into which the keeper's load has to be let in.
-pub fn beside<
+pub fn prepare<
     R: Net<Stream = TcpStream> + Clock + Eprint + RandomSource + Copy + Drop,
     A: Alarm + Drop,
 >(
@@ -93,7 +93,7 @@ pub fn beside<
         journal,
         news,
         ends,
-    } = rings(alloc, standing)?;
+    } = new_rings(alloc, standing)?;
     let keeper = Keeper::new(*rt, alloc, list, ends, Arc::try_clone(standing)?);
     Ok(Beside {
         rows: rows_over(alloc, journal, alarm),
