@@ -13,7 +13,7 @@ BLOCK = re.compile(r"^//! ```rust\n//! // (crates/\S+\.rt)\n(.*?)^//! ```$", re.
 # Libraries whose functions are laws alone.
 LAWS = ("hdl_follows", "hdl_journal", "hdl_together")
 # Libraries that no code calls yet.
-AHEAD = ("hdl_journalrows", "hdl_entries", "hdl_gateway", "hdl_shared")
+AHEAD = ("hdl_journalrows", "hdl_entries", "hdl_gateway")
 
 
 def libraries():

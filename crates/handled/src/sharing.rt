@@ -9,7 +9,7 @@ use hdl_guardedrows::GuardedRows;
 use hdl_host::{Sharing, host_shared};
 use hdl_programs::Fault;
 use hdl_server_options::ClusterOptions;
-use hdl_shared::{Beside, Standing, beside};
+use hdl_shared::{Beside, Standing, prepare};
 use std::alloc::AllocError;
 use std::fs::Files;
 use std::net::{Net, TcpListener, TcpStream};
@@ -38,7 +38,7 @@ fn beside_of<
 ) -> Result<Beside<R, TableNotices>, Fault> {
     let ClusterOptions { members, name } = cluster;
     let name = name.into_bytes();
-    match beside(machine, rt.alloc(), members, name, standing, notices) {
+    match prepare(machine, rt.alloc(), members, name, standing, notices) {
         Ok(beside) => Ok(beside),
         Err(_) => Err(Fault::Device),
     }
