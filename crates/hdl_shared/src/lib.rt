@@ -12,7 +12,13 @@
 //!
 //! No clause says what the [`Keeper`] puts into the rings, since a network brings it. That the changes of all servers are one list is the premise of `servers_serve_as_one` (hdl_serve).
 //!
-//! No server uses this crate yet.
+//! ```rust
+//! // crates/hdl_host/src/sharing.rt
+//! let mut loading = keeper.load()?;
+//! while keeper.load_part(&mut loading)? {
+//!     let_in_all(service, news)?;
+//! }
+//! ```
 //!
 //! # Decisions
 //!
