@@ -47,6 +47,7 @@ PARTS = (
     [sys.executable, "tools/readme.py"],
     [sys.executable, "tools/helps.py"],
     [sys.executable, "tools/lasting.py"],
+    [sys.executable, "tools/clusters.py"],
     [sys.executable, "tools/damages.py"],
     [sys.executable, "tools/shuts.py"],
     [sys.executable, "tools/exports.py"],

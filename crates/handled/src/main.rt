@@ -18,6 +18,7 @@ mod plan;
 mod ports;
 mod replaying;
 mod serving;
+mod sharing;
 mod supervising;
 mod texts;
 
@@ -27,7 +28,7 @@ use hdl_cachedrows::LIMIT_DEFAULT;
 use hdl_host::{Health, Setting};
 use hdl_programs::{Fault, status_of_words, tenants_of};
 use hdl_server_options::{
-    BoundWord, ExportOptions, Invocation, ServeOptions, TableFile, read_options,
+    BoundWord, ClusterOptions, ExportOptions, Invocation, ServeOptions, TableFile, read_options,
 };
 use hdl_tables::{
     Export, FileWork, TabledFault, copy_table, empty_table, has_named, is_new, not_there,
@@ -38,6 +39,7 @@ use opening::{open_planned, place_of};
 use plan::{Plan, Planned, plan_of, setting_of};
 use replaying::{ReadScript, replay_input};
 use serving::{serve_memory, serve_table};
+use sharing::serve_cluster;
 use std::fs::Files;
 use std::net::{IpAddr, Net, TcpListener, TcpStream};
 use std::process::ExitCode;
@@ -72,7 +74,30 @@ fn serve_file<
     serve_table(machine, rt, table, plan, file.path.as_str())
 }
 
-/// Serves by this plan, over the table in the file, if one is named, and else over one in memory. Answers the exit status.
+/// Where the table of a server is.
+#[derive(Drop)]
+enum Kept {
+    Memory { row_cache: usize },
+    File(TableFile),
+    Cluster(ClusterOptions),
+}
+
+/// Where these options keep the table. Nobody gives both.
+fn kept_in(
+    table: Option<TableFile>,
+    cluster: Option<ClusterOptions>,
+    row_cache: Option<usize>,
+) -> Kept {
+    match (table, cluster) {
+        (Some(file), _) => Kept::File(file),
+        (None, Some(cluster)) => Kept::Cluster(cluster),
+        (None, None) => Kept::Memory {
+            row_cache: row_cache.unwrap_or(LIMIT_DEFAULT),
+        },
+    }
+}
+
+/// Serves by this plan over the table that is kept so. Answers the exit status.
 fn serve_plan<
     R: Net<Listener = TcpListener, Stream = TcpStream>
         + Threads
@@ -85,19 +110,14 @@ fn serve_plan<
         + Drop
         + 'static,
     P: Plan,
->(
-    machine: &R,
-    rt: &HostRuntime,
-    plan: P,
-    row_cache: usize,
-    table: Option<TableFile>,
-) -> Result<u8, ProgramFault> {
-    match table {
-        None => {
+>(machine: &R, rt: &HostRuntime, plan: P, kept: Kept) -> Result<u8, ProgramFault> {
+    match kept {
+        Kept::Memory { row_cache } => {
             let rows = empty_table::<R, TableNotices>(rt, row_cache)?;
             serve_memory(machine, rt, rows, plan, row_cache)
         }
-        Some(file) => serve_file(machine, rt, &file, plan),
+        Kept::File(file) => serve_file(machine, rt, &file, plan),
+        Kept::Cluster(cluster) => serve_cluster(machine, rt, cluster, plan),
     }
 }
 
@@ -134,11 +154,12 @@ fn serve<
         takes_changes,
         row_cache,
         table,
+        cluster,
     } = options;
     let setting = setting_of(rt, addresses, limits, takes_changes, supervision)?;
-    let row_cache = row_cache.unwrap_or(LIMIT_DEFAULT);
+    let kept = kept_in(table, cluster, row_cache);
     match plan_in(rt, text, setting, bounds)? {
-        Planned::Plan(plan) => serve_plan(machine, rt, plan, row_cache, table),
+        Planned::Plan(plan) => serve_plan(machine, rt, plan, kept),
         Planned::Refused(status) => Ok(status),
     }
 }

@@ -17,6 +17,8 @@ pub enum Notice<'a> {
     Memory { row_cache: usize },
     /// In the file at this path.
     File { path: &'a str, takes_changes: bool },
+    /// In etcd, below this name.
+    Cluster(&'a str),
 }
 
 impl fmt::Display for Notice<'_> {
@@ -28,6 +30,7 @@ impl fmt::Display for Notice<'_> {
                 takes_changes: true,
             } => write!(f, "{path}"),
             Notice::File { path, .. } => write!(f, "{path}, read-only: changes are answered 5"),
+            Notice::Cluster(name) => write!(f, "cluster {name}"),
         }
     }
 }

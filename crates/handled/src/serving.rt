@@ -21,17 +21,17 @@ use std::sync::Arc;
 use std::thread::Threads;
 
 /// Whether the server was asked to end, which is looked at after its end.
-fn ending_of(setting: &Setting) -> Result<Arc<Ending>, Fault> {
+pub fn ending_of(setting: &Setting) -> Result<Arc<Ending>, Fault> {
     Ok(Arc::try_clone(&setting.supervision.ending)?)
 }
 
 /// What is reported of the table, which is looked at after the end.
-fn health_of(setting: &Setting) -> Result<Arc<Health>, Fault> {
+pub fn health_of(setting: &Setting) -> Result<Arc<Health>, Fault> {
     Ok(Arc::try_clone(&setting.supervision.health)?)
 }
 
 /// The guard of a table that is served in this setting, and of its file, where it has one.
-fn guard_of(
+pub fn guard_of(
     rt: &HostRuntime,
     setting: &Setting,
     file: Option<FileWatch>,

@@ -32,8 +32,8 @@ const RING: usize = 16;
 /// The sleep of the thread that serves, the sockets of each publisher, what is said once all of them listen and the lines that tell where they are, and the sockets at which the server is
 /// watched.
 #[derive(Drop)]
-struct Opened {
-    sleep: Sleep,
+pub(crate) struct Opened {
+    pub(crate) sleep: Sleep,
     places: Vec<PublisherSockets<Crowd>>,
     begins: String,
     lines: String,
@@ -43,11 +43,11 @@ struct Opened {
 /// What is there before anything is served: every lane, the queue of lanes whose writes wait, every socket, who looks at the table's file, and how many turns each worker and the
 /// service have.
 #[derive(Drop)]
-struct Ready {
+pub(crate) struct Ready {
     ends: Vec<LaneEnds>,
     sides: Vec<WorkerSide>,
     queue: WriteQueue,
-    opened: Opened,
+    pub(crate) opened: Opened,
     watchman: Watchman,
     turns: u64,
     ghost distinct: { AreDistinct ends.items },
@@ -55,7 +55,7 @@ struct Ready {
 
 /// The bounds of publishers, who hears that one is reached, and whether changes are taken.
 #[derive(Drop)]
-struct Limited {
+pub(crate) struct Limited {
     bounds: Vec<Bound>,
     notices: Notices,
     takes_changes: bool,
@@ -105,7 +105,7 @@ fn ready_in<R: Net<Listener = TcpListener, Stream = TcpStream> + Clock + Files>(
 
 /// Makes the lanes of the tenants and listens for each publisher. With what is ready come the limits of changes, and the path of the socket at which
 /// the word to end is taken: all else of a setting ends here, so that who opens a table owns little.
-fn ready_for<R: Net<Listener = TcpListener, Stream = TcpStream> + Clock + Files>(
+pub(crate) fn ready_for<R: Net<Listener = TcpListener, Stream = TcpStream> + Clock + Files>(
     rt: &R,
     alloc: Global,
     tenants: &Tenants,
@@ -129,7 +129,7 @@ fn ready_for<R: Net<Listener = TcpListener, Stream = TcpStream> + Clock + Files>
 /// What serves lanes on the calling thread, until each of them ended or the turns are spent.
 ///
 /// What starts and joins the workers is generic over it: proving a function that owns a `Service` costs several times as much.
-trait Serving {
+pub(crate) trait Serving {
     /// Serves the lanes, and gives back what served them.
     fn serve_lanes<C: Pauses>(
         self,
@@ -140,6 +140,11 @@ trait Serving {
         turns: u64,
     ) -> Self
         requires distinct { AreDistinct ends.items };
+
+    /// Whether each lane was served to its end. Else no worker is waited for.
+    fn is_whole(&self) -> bool {
+        true
+    }
 }
 
 impl<T: Owing + Drop> Serving for Service<T> {
@@ -208,14 +213,18 @@ fn run_workers<
     let clock = MachineClock::new(*rt, Part::Serves(sleep));
     let mut clock = WatchingClock::new(*rt, clock, watchman);
     let service = service.serve_lanes(alloc, ends, &mut clock, &mut queue, turns);
-    let joined = join_all(rt, workers, &watched.ending);
+    let joined = if service.is_whole() {
+        join_all(rt, workers, &watched.ending)
+    } else {
+        Ok(())
+    };
     watched.leave(rt);
     joined?;
     Ok(service)
 }
 
 /// Says that serving begins, tells where it listens, serves, and gives back what served.
-fn tell_and_serve<
+pub(crate) fn tell_and_serve<
     R: Threads + Clock + RandomSource + Files + Eprint + Copy + Send + Drop + 'static,
     S: Serving + Drop,
     W: Write,
@@ -267,7 +276,7 @@ fn open_within<T: Owing + Drop>(
 }
 
 /// The service of the tenants over a table that is there already, within these limits.
-fn resume_within<T: Owing + Drop>(
+pub(crate) fn resume_within<T: Owing + Drop>(
     alloc: Global,
     rows: T,
     limited: Limited,
@@ -328,7 +337,7 @@ fn resume_and_serve<
 }
 
 /// Takes the socket away at which the word to end was taken.
-fn leave_control<R: Files>(rt: &R, path: &Option<String>) {
+pub(crate) fn leave_control<R: Files>(rt: &R, path: &Option<String>) {
     if let Some(path) = path {
         // a socket that stays is taken away by the next start
         let _ = fs::remove_file(rt, path.as_str());

@@ -8,7 +8,7 @@
 //! ```
 //!
 //! [`host_tenants`] listens at each publisher's port and each address of a [`Setting`] by TCP and UDP, starts a worker for each lane, and serves on the thread
-//! that called it. [`host_resumed`] does so over a table that is there already, and gives it back; [`host`] takes a text, on loopback. Everything between a door and a table is proved of `hdl_workers`,
+//! that called it. [`host_resumed`] does so over a table that is there already, and gives it back; [`host_shared`] over one that other servers have too; [`host`] takes a text, on loopback. Everything between a door and a table is proved of `hdl_workers`,
 //! `hdl_serve` and `hdl_core`, and the numbers of datagram peers of `hdl_trail`, what a crowd of connections keeps of `hdl_crowd`. The doors, the clock and the random numbers are those of `hdl_sockets`;
 //! `hdl_listeners` opens the sockets and starts the workers. This crate makes the lanes, opens the service over a table within the bounds of its publishers ([`Notices`] hears that one is reached), and serves.
 //! No contract can say what sockets give, so nothing is promised of octets on a wire.
@@ -22,6 +22,7 @@
 
 mod bounds;
 mod hosting;
+mod sharing;
 mod watching;
 
 pub use bounds::{Notices, notices_of};
@@ -32,3 +33,4 @@ pub use hdl_listeners::{
 pub use hdl_sockets::Ending;
 pub use hdl_telemetry::{FileChange, FileWatch, Health, Log, LogFile, Notice};
 pub use hosting::{host, host_resumed, host_tenants};
+pub use sharing::{Sharing, host_shared};

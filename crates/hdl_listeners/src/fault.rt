@@ -1,5 +1,6 @@
 //! Why a server ends with a fault line.
 
+use hdl_members::ListFault;
 use hdl_programs::Fault;
 use std::alloc::{AllocError, AllocFailed};
 use std::fmt;
@@ -15,7 +16,12 @@ pub enum HostFault {
     Listen(SocketAddr, ErrorKind),
     /// The socket at which the word to end is taken can't be made, for a reason of this kind.
     Control(ErrorKind),
+    /// The list of changes that servers share can't be had.
+    Cluster(ListFault),
 }
+
+/// The status if a cluster can't be had, or has another layout.
+const NO_CLUSTER: u8 = 7;
 
 impl HostFault {
     /// The exit status (docs/PROTOCOL.md, "The tenants text and scripts").
@@ -23,6 +29,7 @@ impl HostFault {
         match self {
             HostFault::Run(fault) => fault.status(),
             HostFault::Listen(_, _) | HostFault::Control(_) => Fault::Device.status(),
+            HostFault::Cluster(_) => NO_CLUSTER,
         }
     }
 }
@@ -74,6 +81,10 @@ impl fmt::Display for HostFault {
                     Fault::Device
                 )
             }
+            HostFault::Cluster(fault) => write!(
+                f,
+                "cluster: {fault}: `etcdctl endpoint status --cluster` says how its members are"
+            ),
         }
     }
 }
@@ -81,6 +92,15 @@ impl fmt::Display for HostFault {
 impl From<Fault> for HostFault {
     fn from(fault: Fault) -> HostFault {
         HostFault::Run(fault)
+    }
+}
+
+impl From<ListFault> for HostFault {
+    fn from(fault: ListFault) -> HostFault {
+        match fault {
+            ListFault::Memory => HostFault::Run(Fault::NoMemory),
+            fault => HostFault::Cluster(fault),
+        }
     }
 }
 

@@ -1,6 +1,7 @@
 //! The page that says how a server is, over HTTP: `/health` and `/metrics`.
 
 use crate::guests::{Answer, Desk};
+use hdl_members::Standing;
 use hdl_programs::VERSION;
 use hdl_telemetry::{Counts, Flow, Health, Vitals};
 use httparse::Status;
@@ -25,6 +26,8 @@ pub struct StatusPage {
     pub vitals: Arc<Vitals>,
     /// How the lines of the log go, where there is one.
     pub log: Option<Arc<Flow>>,
+    /// How the server stands beside the others, if others have its table.
+    pub beside: Option<Arc<Standing>>,
 }
 
 /// What is answered: what follows the version, the kind of the body, and the body.
@@ -45,9 +48,17 @@ fn plain(alloc: Global, status: &'static str, words: &str) -> Result<Page, Alloc
 }
 
 impl StatusPage {
+    /// What is wrong now, in words, if something is.
+    fn trouble(&self) -> Option<&'static str> {
+        match (self.health.trouble(), &self.beside) {
+            (None, Some(standing)) => standing.trouble(),
+            (trouble, _) => trouble,
+        }
+    }
+
     /// Whether the table takes changes.
     fn health(&self, alloc: Global) -> Result<Page, AllocError> {
-        match self.health.trouble() {
+        match self.trouble() {
             Some(words) => plain(alloc, "503 Service Unavailable", words),
             None => plain(alloc, "200 OK", "ok\n"),
         }
@@ -131,6 +142,38 @@ impl StatusPage {
         )
     }
 
+    /// Puts how the server stands beside the others, if others have its table.
+    fn put_standing<W: fmt::Write>(&self, out: &mut W) -> fmt::Result {
+        let Some(standing) = &self.beside else {
+            return Ok(());
+        };
+        let up = u8::from(!standing.is_cut());
+        writeln!(
+            out,
+            "# HELP handled_cluster_up 1 while a member of etcd answers.\n# TYPE handled_cluster_up gauge\nhandled_cluster_up {up}"
+        )?;
+        let changes = standing.changes();
+        writeln!(
+            out,
+            "# HELP handled_cluster_changes Changes that the server has, of all servers.\n# TYPE handled_cluster_changes gauge\nhandled_cluster_changes {changes}"
+        )?;
+        let behind = standing.behind();
+        writeln!(
+            out,
+            "# HELP handled_cluster_behind Changes that the server knows of and hasn't.\n# TYPE handled_cluster_behind gauge\nhandled_cluster_behind {behind}"
+        )?;
+        let refusals = standing.refusals();
+        writeln!(
+            out,
+            "# HELP handled_cluster_refusals_total Changes that lost a race against another server's, or that etcd refused.\n# TYPE handled_cluster_refusals_total counter\nhandled_cluster_refusals_total {refusals}"
+        )?;
+        let resent = standing.resent();
+        writeln!(
+            out,
+            "# HELP handled_cluster_resent_total Times that a change was sent again, since no answer came.\n# TYPE handled_cluster_resent_total counter\nhandled_cluster_resent_total {resent}"
+        )
+    }
+
     /// Puts everything that is counted.
     fn put_metrics<W: fmt::Write>(&self, out: &mut W) -> fmt::Result {
         writeln!(
@@ -140,6 +183,7 @@ impl StatusPage {
         self.put_counts(out)?;
         self.put_table(out)?;
         self.put_memory(out)?;
+        self.put_standing(out)?;
         self.vitals.put(out)?;
         self.put_log(out)
     }

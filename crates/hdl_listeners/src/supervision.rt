@@ -6,6 +6,7 @@ use crate::guests::serve_guests;
 use crate::listening::{PublisherSockets, or_device};
 use crate::status::StatusPage;
 use crate::telling::{Telling, tell};
+use hdl_members::Standing;
 use hdl_programs::Fault;
 use hdl_sockets::Ending;
 use hdl_telemetry::{Counts, FileWatch, Flow, Health, Log, LogFile, Notice, Record, Vitals, Voice};
@@ -48,6 +49,8 @@ pub struct Supervision {
     pub bounds: Arc<Vec<Notice>>,
     /// Whether the server is asked to end.
     pub ending: Arc<Ending>,
+    /// How the server stands beside others, if others have its table.
+    pub beside: Option<Arc<Standing>>,
 }
 
 impl Supervision {
@@ -65,6 +68,7 @@ impl Supervision {
             file: None,
             bounds: Arc::new(alloc, Vec::new(alloc))?,
             ending: Arc::new(alloc, Ending::new())?,
+            beside: None,
         })
     }
 
@@ -149,6 +153,14 @@ fn flow_of(supervision: &Supervision) -> Result<Option<Arc<Flow>>, AllocError> {
     }
 }
 
+/// How the server stands beside others, if others have its table.
+fn standing_of(supervision: &Supervision) -> Result<Option<Arc<Standing>>, AllocError> {
+    match &supervision.beside {
+        Some(standing) => Ok(Some(Arc::try_clone(standing)?)),
+        None => Ok(None),
+    }
+}
+
 /// What the status page tells.
 fn page_of<C>(
     alloc: Global,
@@ -160,6 +172,7 @@ fn page_of<C>(
         health: Arc::try_clone(&supervision.health)?,
         vitals: Arc::try_clone(&supervision.vitals)?,
         log: flow_of(supervision)?,
+        beside: standing_of(supervision)?,
     })
 }
 

@@ -44,7 +44,10 @@ fn let_in_next<R: Owing + Drop, N: News>(
             Ok(true)
         }
         LetIn::Unfit => Err(Parted),
-        LetIn::Refused | LetIn::Owed => Ok(false),
+        LetIn::Refused | LetIn::Owed => {
+            news.leave();
+            Ok(false)
+        }
     }
 }
 

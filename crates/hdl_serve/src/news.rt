@@ -21,7 +21,7 @@ pub trait News {
     /// The next change, if one is seen.
     ghost seen: { Self → Option StampedChange };
 
-    /// Looks whether the next change has come. Nothing is taken.
+    /// Looks whether the next change has come. Nothing is taken. What is seen is offered to the table until it is taken or left.
     fn look(&mut self)
         ensures { taken self.new ≡ taken self.old };
 
@@ -32,6 +32,10 @@ pub trait News {
     /// Takes the change that is seen: it is in the table.
     fn take(&mut self)
         ensures { MatchOption (seen self.old) (taken self.new ≡ taken self.old) (λ change. taken self.new ≡ taken self.old ++ change ∷ []) };
+
+    /// Leaves the change that is seen: the table doesn't have it yet. It is offered no more until the next look.
+    fn leave(&mut self)
+        ensures { taken self.new ≡ taken self.old };
 }
 
 /// The news of a server beside which there is no other.
@@ -50,4 +54,6 @@ impl News for NoNews {
     }
 
     fn take(&mut self) {}
+
+    fn leave(&mut self) {}
 }

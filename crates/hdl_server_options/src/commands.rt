@@ -76,7 +76,8 @@ fn serve_command<'a>(alloc: Global) -> Result<Command<'a>, AllocError> {
         ))?;
     let command = bound_args(alloc, limit_args(alloc, command)?)?;
     let command = table_args(alloc, supervision_args(alloc, command)?)?;
-    command.arg(read_only_arg(alloc)?)
+    let command = command.arg(read_only_arg(alloc)?)?;
+    cluster_args(alloc, command)
 }
 
 /// The option by which no changes are taken.
@@ -88,6 +89,25 @@ fn read_only_arg<'a>(alloc: Global) -> Result<Arg<'a>, AllocError> {
         )
         .action(ArgAction::SetTrue)
         .requires_arg("table")
+}
+
+/// The options of `serve` by which other servers have the same table.
+fn cluster_args<'a>(alloc: Global, command: Command<'a>) -> Result<Command<'a>, AllocError> {
+    command
+        .arg(option(
+            alloc,
+            "cluster",
+            "HOST:PORT[,..]",
+            "Keeps the table in etcd, by these members of it, so that other servers have the same table",
+        )
+        .conflicts_with("table")?)?
+        .arg(option(
+            alloc,
+            "cluster-name",
+            "NAME",
+            "What the table's keys in etcd begin with; handles by default",
+        )
+        .requires_arg("cluster")?)
 }
 
 /// The options of `serve` by which turns, waiting and crowds have a limit.

@@ -13,6 +13,15 @@ pub struct TableFile {
     pub accepts_loss: bool,
 }
 
+/// The words after `--cluster` and `--cluster-name`.
+#[derive(Drop)]
+pub struct ClusterOptions {
+    /// The members of etcd, each as `HOST:PORT`: at least one.
+    pub members: Vec<String>,
+    /// What all keys of the cluster begin with.
+    pub name: String,
+}
+
 /// A word after `--bound`: a publisher's name, and how many values and octets it may hold at most.
 #[derive(Drop)]
 pub struct BoundWord {
@@ -61,8 +70,10 @@ pub struct ServeOptions {
     pub takes_changes: bool,
     /// How many octets the handles that were read last may take.
     pub row_cache: Option<usize>,
-    /// The file of the table; None: the table is in memory alone.
+    /// The file of the table; None: the table is in memory alone, or shared.
     pub table: Option<TableFile>,
+    /// Where the table is that other servers have too. Then it has no file.
+    pub cluster: Option<ClusterOptions>,
 }
 
 /// The options of `export`.

@@ -25,7 +25,7 @@ mod unclear;
 mod values;
 
 pub use invocation::{
-    BoundWord, ExportOptions, Invocation, LimitOptions, OptionsFault, ServeOptions,
+    BoundWord, ClusterOptions, ExportOptions, Invocation, LimitOptions, OptionsFault, ServeOptions,
     SupervisionOptions, TableFile,
 };
 pub use reading::read_options;

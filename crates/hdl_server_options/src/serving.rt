@@ -1,6 +1,8 @@
 //! The options of `serve`.
 
-use crate::invocation::{BoundWord, LimitOptions, ServeOptions, SupervisionOptions};
+use crate::invocation::{
+    BoundWord, ClusterOptions, LimitOptions, ServeOptions, SupervisionOptions,
+};
 use crate::unclear::Unclear;
 use crate::values::{copy_of, table_file};
 use clap::ArgMatches;
@@ -140,12 +142,61 @@ fn supervision(alloc: Global, found: &ArgMatches) -> Result<SupervisionOptions, 
     })
 }
 
+/// The name of a cluster, if none is given.
+const CLUSTER_NAME: &str = "handles";
+
+/// Whether a word is `HOST:PORT`.
+fn is_member(word: &str) -> bool {
+    match word.rsplit_once(':') {
+        Some((host, port)) => !host.is_empty() && port.parse::<u16>().is_ok(),
+        None => false,
+    }
+}
+
+/// The members that a word spells, with commas between them.
+fn members_of(alloc: Global, words: &str) -> Result<Vec<String>, Unclear> {
+    let mut members = Vec::new(alloc);
+    for word in words.split(',') {
+        if !is_member(word) {
+            return Err(Unclear::Member(String::from_str(alloc, word)?));
+        }
+        members
+            .push(String::from_str(alloc, word)?)
+            .map_err(AllocError::from)?;
+    }
+    Ok(members)
+}
+
+/// Whether a word can name a cluster: letters, digits and hyphens.
+fn is_name(word: &str) -> bool {
+    !word.is_empty()
+        && word
+            .bytes()
+            .all(|octet| octet.is_ascii_alphanumeric() || octet == b'-')
+}
+
+/// Where the table is that other servers have too, if members are named.
+fn cluster(alloc: Global, found: &ArgMatches) -> Result<Option<ClusterOptions>, Unclear> {
+    let Some(words) = found.get_str("cluster") else {
+        return Ok(None);
+    };
+    let name = found.get_str("cluster-name").unwrap_or(CLUSTER_NAME);
+    if !is_name(name) {
+        return Err(Unclear::ClusterName(String::from_str(alloc, name)?));
+    }
+    Ok(Some(ClusterOptions {
+        members: members_of(alloc, words)?,
+        name: String::from_str(alloc, name)?,
+    }))
+}
+
 /// What is asked for by the words after `serve`.
 pub fn serve_options(alloc: Global, found: &ArgMatches) -> Result<ServeOptions, Unclear> {
     let addresses = addresses(alloc, found.get_strs("listen").unwrap_or(&[]))?;
     let supervision = supervision(alloc, found)?;
     let bounds = bound_words(alloc, found.get_strs("bound").unwrap_or(&[]))?;
     let table = table_file(alloc, found)?;
+    let cluster = cluster(alloc, found)?;
     let text = copy_of(alloc, found.get_str("text"))?;
     Ok(ServeOptions {
         text,
@@ -156,5 +207,6 @@ pub fn serve_options(alloc: Global, found: &ArgMatches) -> Result<ServeOptions, 
         takes_changes: !found.get_flag("read-only"),
         row_cache: octets_behind(found, "row-cache"),
         table,
+        cluster,
     })
 }

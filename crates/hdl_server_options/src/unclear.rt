@@ -21,6 +21,10 @@ pub enum Unclear {
     BoundTwice(String),
     /// This is no address with a port.
     Status(String),
+    /// This is no member of a cluster.
+    Member(String),
+    /// This can't name a cluster.
+    ClusterName(String),
 }
 
 impl From<Error> for Unclear {
@@ -88,6 +92,18 @@ pub fn print_unclear(rt: &HostRuntime, unclear: Unclear) -> Result<u8, OptionsFa
             word.as_str(),
             "--status <ADDRESS:PORT>",
             "not an address with a port; write one such as 127.0.0.1:9100 or [::1]:9100",
+        )),
+        Unclear::Member(word) => Ok(refuse_value(
+            rt,
+            word.as_str(),
+            "--cluster <HOST:PORT[,..]>",
+            "not a member of etcd; write its client address, such as 127.0.0.1:2379",
+        )),
+        Unclear::ClusterName(word) => Ok(refuse_value(
+            rt,
+            word.as_str(),
+            "--cluster-name <NAME>",
+            "write letters, digits and hyphens",
         )),
         Unclear::BoundTwice(word) => Ok(refuse_value(
             rt,

@@ -1,0 +1,101 @@
+//! Serving over a table that other servers have too.
+
+use crate::descriptors::say_descriptors;
+use crate::fault::ProgramFault;
+use crate::notices::{Notice, TableNotices, begins_line, say_ends};
+use crate::plan::Plan;
+use crate::serving::{ending_of, guard_of, health_of};
+use hdl_guardedrows::GuardedRows;
+use hdl_host::{Sharing, host_shared};
+use hdl_programs::Fault;
+use hdl_server_options::ClusterOptions;
+use hdl_shared::{Beside, Standing, prepare};
+use std::alloc::AllocError;
+use std::fs::Files;
+use std::net::{Net, TcpListener, TcpStream};
+use std::random::RandomSource;
+use std::rt::Clock;
+use std::sync::Arc;
+use std::thread::Threads;
+
+/// The exit status of a server that has parted from the others: a service file starts it anew.
+const PARTED: u8 = 6;
+
+/// What a server has beside others, by these options.
+fn beside_of<
+    R: Net<Listener = TcpListener, Stream = TcpStream>
+        + Clock
+        + Eprint
+        + RandomSource
+        + Copy
+        + Drop,
+>(
+    machine: &R,
+    rt: &HostRuntime,
+    cluster: ClusterOptions,
+    standing: &Arc<Standing>,
+    notices: TableNotices,
+) -> Result<Beside<R, TableNotices>, Fault> {
+    let ClusterOptions { members, name } = cluster;
+    let name = name.into_bytes();
+    match prepare(machine, rt.alloc(), members, name, standing, notices) {
+        Ok(beside) => Ok(beside),
+        Err(_) => Err(Fault::Device),
+    }
+}
+
+/// Nothing is known of the others yet.
+fn standing(rt: &HostRuntime) -> Result<Arc<Standing>, AllocError> {
+    Ok(Arc::new(rt.alloc(), Standing::new())?)
+}
+
+/// Serves by this plan over the table that the others of a cluster have, and answers the exit status.
+pub fn serve_cluster<
+    R: Net<Listener = TcpListener, Stream = TcpStream>
+        + Threads
+        + Clock
+        + RandomSource
+        + Files
+        + Eprint
+        + Copy
+        + Send
+        + Drop
+        + 'static,
+    P: Plan,
+>(machine: &R, rt: &HostRuntime, cluster: ClusterOptions, plan: P) -> Result<u8, ProgramFault> {
+    let limits = plan.setting().limits;
+    say_descriptors(rt, plan.tenants(), limits);
+    let kept = Notice::Cluster(cluster.name.as_str());
+    let begins = begins_line(rt, plan.tenants(), kept, limits).map_err(Fault::from)?;
+    let mut output = rt.stdout();
+    let ending = ending_of(plan.setting())?;
+    let health = health_of(plan.setting())?;
+    let guard = guard_of(rt, plan.setting(), None)?;
+    let standing = standing(rt).map_err(Fault::from)?;
+    let notices = TableNotices::new(rt, health_of(plan.setting())?);
+    let Beside { rows, news, keeper } = beside_of(machine, rt, cluster, &standing, notices)?;
+    let (tenants, mut setting) = plan.into_parts();
+    setting.supervision.begins = begins;
+    setting.supervision.beside = Some(Arc::try_clone(&standing).map_err(Fault::from)?);
+    let rows = GuardedRows::new(rows, guard);
+    let theirs = Arc::try_clone(&standing).map_err(Fault::from)?;
+    let sharing = Sharing {
+        news,
+        keeper,
+        standing: theirs,
+    };
+    host_shared(
+        machine,
+        rt.alloc(),
+        rows,
+        tenants,
+        (setting, sharing),
+        &mut output,
+    )?;
+    if standing.has_parted() {
+        let _ = eprintln!(rt; "cluster: the server has parted from the others: start it anew");
+        return Ok(PARTED);
+    }
+    say_ends(rt, &health, ending.is_asked());
+    Ok(0)
+}

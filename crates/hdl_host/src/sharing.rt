@@ -1,0 +1,206 @@
+//! Serving a table that other servers have too.
+
+ghost use Rattle.hdl_workers.specs.Ends.{AreDistinct};
+
+use crate::hosting::{
+    Limited, Ready, Serving, leave_control, ready_for, resume_within, tell_and_serve,
+};
+use hdl_core::{LetIn, Owing, Rows, Service, Tenants};
+use hdl_listeners::{HostFault, Setting, or_device};
+use hdl_programs::Fault;
+use hdl_queue::WriteQueue;
+use hdl_serve::{Clock as Pauses, LaneEnds, News, Served, SharedEnd, serve_shared};
+use hdl_shared::{EtcdNews, Keeper, ListFault, Standing, Waking};
+use hdl_sockets::{Bell, Ending};
+use std::alloc::Global;
+use std::fs::Files;
+use std::io::Write;
+use std::net::{Net, TcpListener, TcpStream};
+use std::random::RandomSource;
+use std::rt::Clock;
+use std::sync::Arc;
+use std::thread;
+use std::thread::Threads;
+
+/// What brings other servers' changes, puts this one's, and tells how the server stands beside them.
+#[derive(Drop)]
+pub struct Sharing<R> {
+    pub news: EtcdNews,
+    pub keeper: Keeper<R>,
+    pub standing: Arc<Standing>,
+}
+
+/// The service of a table that others change too, and what they changed.
+#[derive(Drop)]
+struct SharedService<T: Rows + Drop> {
+    service: Service<T>,
+    news: EtcdNews,
+    standing: Arc<Standing>,
+}
+
+impl<T: Owing + Drop> Serving for SharedService<T> {
+    fn serve_lanes<C: Pauses>(
+        self,
+        alloc: Global,
+        ends: Vec<LaneEnds>,
+        clock: &mut C,
+        queue: &mut WriteQueue,
+        turns: u64,
+    ) -> SharedService<T> {
+        let SharedService {
+            service,
+            mut news,
+            standing,
+        } = self;
+        let served = Served {
+            service,
+            lanes: ends,
+            turns,
+        };
+        let shared = serve_shared(alloc, served, clock, queue, &mut news);
+        if shared.end == SharedEnd::Parted {
+            standing.part();
+        }
+        SharedService {
+            service: shared.served.service,
+            news,
+            standing,
+        }
+    }
+
+    fn is_whole(&self) -> bool {
+        !self.standing.has_parted()
+    }
+}
+
+/// How the thread that serves is told.
+#[derive(Drop)]
+struct Awakening {
+    bell: Arc<Bell>,
+    ending: Arc<Ending>,
+}
+
+impl Waking for Awakening {
+    fn wake(&self) {
+        self.bell.ring();
+    }
+
+    fn end(&self) {
+        self.ending.ask_to_end();
+    }
+}
+
+/// Lets in all that the news have.
+fn let_in_all<T: Owing + Drop, N: News>(
+    service: &mut Service<T>,
+    news: &mut N,
+) -> Result<(), Fault> {
+    for _ in 0..u64::MAX {
+        news.look();
+        let Some(next) = news.front() else {
+            break;
+        };
+        match service.let_in(next.moment, &next.change) {
+            LetIn::Done => news.take(),
+            LetIn::Unfit => return Err(Fault::StoreRefused),
+            LetIn::Refused | LetIn::Owed => return Err(Fault::NoMemory),
+        }
+    }
+    Ok(())
+}
+
+/// Reads the whole table, part by part, into the service.
+fn load<R: Net<Stream = TcpStream> + Clock + Eprint + Drop, T: Owing + Drop>(
+    service: &mut Service<T>,
+    news: &mut EtcdNews,
+    keeper: &mut Keeper<R>,
+) -> Result<(), HostFault> {
+    let mut loading = keeper.load()?;
+    while keeper.load_part(&mut loading)? {
+        let_in_all(service, news)?;
+    }
+    Ok(())
+}
+
+/// Starts the thread that keeps the server beside the others.
+fn start_keeper<
+    R: Net<Stream = TcpStream> + Threads + Clock + Eprint + Copy + Send + Drop + 'static,
+>(rt: &R, keeper: Keeper<R>, waking: Awakening) -> Result<(), Fault> {
+    match thread::spawn(rt, move || keeper.keep(waking)) {
+        Ok(_) => Ok(()),
+        Err(_) => Err(Fault::Device),
+    }
+}
+
+/// Opens the service over the table that the others have, tells where it listens, and serves.
+fn share_and_serve<
+    R: Net<Listener = TcpListener, Stream = TcpStream>
+        + Threads
+        + Clock
+        + RandomSource
+        + Files
+        + Eprint
+        + Copy
+        + Send
+        + Drop
+        + 'static,
+    T: Owing + Drop,
+    W: Write,
+>(
+    rt: &R,
+    alloc: Global,
+    rows: T,
+    tenants: Tenants,
+    (prepared, sharing, ending): ((Ready, Limited), Sharing<R>, Arc<Ending>),
+    output: &mut W,
+) -> Result<(), HostFault> {
+    let (ready, limited) = prepared;
+    let Sharing {
+        mut news,
+        mut keeper,
+        standing,
+    } = sharing;
+    keeper.open_all(tenants.opening())?;
+    let mut service = resume_within(alloc, rows, limited, tenants)?;
+    load(&mut service, &mut news, &mut keeper)?;
+    let bell = or_device(ready.opened.sleep.bell())?;
+    start_keeper(rt, keeper, Awakening { bell, ending })?;
+    let service = SharedService {
+        service,
+        news,
+        standing,
+    };
+    drop(tell_and_serve(rt, alloc, service, ready, output)?);
+    Ok(())
+}
+
+/// Serves the tenants over a table that other servers have too, which is empty so far, as [`host_tenants`](crate::host_tenants) does. First the handles that were never opened are put
+/// with their first values, and what the others have is read. If it ends since it has parted from the others, its standing says so.
+pub fn host_shared<
+    R: Net<Listener = TcpListener, Stream = TcpStream>
+        + Threads
+        + Clock
+        + RandomSource
+        + Files
+        + Eprint
+        + Copy
+        + Send
+        + Drop
+        + 'static,
+    T: Owing + Drop,
+    W: Write,
+>(
+    rt: &R,
+    alloc: Global,
+    rows: T,
+    tenants: Tenants,
+    (setting, sharing): (Setting, Sharing<R>),
+    output: &mut W,
+) -> Result<(), HostFault> {
+    let ending = Arc::try_clone(&setting.supervision.ending)?;
+    let (ready, limited, control) = ready_for(rt, alloc, &tenants, setting)?;
+    let shared = ((ready, limited), sharing, ending);
+    let served = share_and_serve(rt, alloc, rows, tenants, shared, output);
+    leave_control(rt, &control);
+    served
+}

@@ -1,0 +1,367 @@
+//! The thread that keeps a server beside the others.
+
+use crate::journal::{Order, Written};
+use crate::writes::{change_of_write, moment_of, write_of_change};
+use hdl_entries::{DatedChange, Entry, EntryFault, change_of_message, changes_of_entry};
+use hdl_lanes::{Inlet, Outlet};
+use hdl_lastingrows::OwnWrite;
+use hdl_members::{
+    GatewayFault, ListFault, Loading, Put, Sent, SharedList, Standing, message_of_change,
+};
+use hdl_name::Name;
+use hdl_serve::StampedChange;
+use hdl_value::Value;
+use std::alloc::Global;
+use std::net::{Net, TcpStream};
+use std::rt::Clock;
+use std::sync::Arc;
+use std::sync::atomic::Ordering::SeqCst;
+use std::thread;
+use std::time::{Duration, Instant};
+
+/// For how many seconds no member answers until changes are refused.
+const SILENCE: u64 = 5;
+
+/// How many milliseconds a short wait takes.
+const WAIT: u64 = 1;
+
+/// After how many short waits others' changes are looked for.
+const WAITS: u32 = 20;
+
+/// After how many short waits a change without an answer is sent again.
+const WAITS_AGAIN: u32 = 50;
+
+/// How the server is told.
+pub trait Waking {
+    /// Something came for the table.
+    fn wake(&self);
+
+    /// The server shall end.
+    fn end(&self);
+}
+
+/// What keeps a server beside the others: it brings what they changed, and puts what this server changes.
+#[derive(Drop)]
+pub struct Keeper<R> {
+    rt: R,
+    alloc: Global,
+    list: SharedList<R>,
+    written: Inlet<Written>,
+    changes: Inlet<StampedChange>,
+    orders: Outlet<Order>,
+    standing: Arc<Standing>,
+    /// The number of the last entry that was told.
+    told: u64,
+    /// When a member answered last.
+    heard: Option<Instant>,
+}
+
+/// A change that stands in the list, and the write that it makes.
+#[derive(Drop)]
+struct Told {
+    write: OwnWrite,
+    change: StampedChange,
+}
+
+/// The ends of the rings that a keeper has.
+#[derive(Drop)]
+pub(crate) struct KeeperEnds {
+    pub(crate) written: Inlet<Written>,
+    pub(crate) changes: Inlet<StampedChange>,
+    pub(crate) orders: Outlet<Order>,
+}
+
+impl<R: Net<Stream = TcpStream> + Clock + Eprint + Drop> Keeper<R> {
+    pub(crate) fn new(
+        rt: R,
+        alloc: Global,
+        list: SharedList<R>,
+        ends: KeeperEnds,
+        standing: Arc<Standing>,
+    ) -> Keeper<R> {
+        let KeeperEnds {
+            written,
+            changes,
+            orders,
+        } = ends;
+        Keeper {
+            rt,
+            alloc,
+            list,
+            written,
+            changes,
+            orders,
+            standing,
+            told: 0,
+            heard: None,
+        }
+    }
+
+    fn wait(&self) {
+        thread::sleep(&self.rt, Duration::from_millis(WAIT));
+    }
+
+    /// Puts the handles of a text with their first values, those that were never opened.
+    pub fn open_all(&mut self, opening: &[(Name, Value)]) -> Result<(), ListFault> {
+        self.list.open_all(opening)
+    }
+
+    /// Begins to read the table.
+    pub fn load(&mut self) -> Result<Loading, ListFault> {
+        self.list.load()
+    }
+
+    /// Brings the next part of the table, which has to be let in before the next call. Whether there was one.
+    pub fn load_part(&mut self, loading: &mut Loading) -> Result<bool, ListFault> {
+        let Some(changes) = self.list.next_page(loading)? else {
+            return Ok(false);
+        };
+        let number = self.list.number();
+        for change in changes {
+            let told = self.told_of(change)?;
+            self.tell(told, number, true);
+        }
+        self.standing.note_known(number);
+        self.standing.note_taken(number);
+        Ok(true)
+    }
+
+    /// A change that stands in the list, with the write that it makes.
+    fn told_of(&self, change: DatedChange) -> Result<Told, ListFault> {
+        let DatedChange { moment, change } = change;
+        let write = write_of_change(self.alloc, moment, &change)?;
+        let change = StampedChange { moment, change };
+        Ok(Told { write, change })
+    }
+
+    /// Tells a change that stands in the list, once there is room. The journal has it before the news have.
+    fn tell(&mut self, told: Told, number: u64, is_last: bool) {
+        for _ in 0..u64::MAX {
+            if self.written.has_room() && self.changes.has_room() || self.standing.has_parted() {
+                break;
+            }
+            self.wait();
+        }
+        let Told { write, change } = told;
+        let written = Written {
+            write,
+            number,
+            is_last,
+            is_own: false,
+        };
+        let _ = self.written.put(written);
+        let _ = self.changes.put(change);
+        self.told = number;
+    }
+
+    /// The changes of an entry.
+    fn all_told(&self, entry: &Entry) -> Result<Vec<Told>, ListFault> {
+        let mut all = Vec::new(self.alloc);
+        for change in changes_of_entry(self.alloc, entry)? {
+            all.push(self.told_of(change)?)?;
+        }
+        Ok(all)
+    }
+
+    /// Tells the changes of an entry, however long memory for that is refused.
+    fn tell_entry(&mut self, entry: &Entry) -> Result<(), ListFault> {
+        for _ in 0..u64::MAX {
+            let all = match self.all_told(entry) {
+                Ok(all) => all,
+                Err(ListFault::Memory) => {
+                    self.wait();
+                    continue;
+                }
+                Err(fault) => return Err(fault),
+            };
+            let mut left = all.len();
+            for told in all {
+                left = left.saturating_sub(1);
+                self.tell(told, entry.number, left == 0);
+            }
+            return Ok(());
+        }
+        Err(ListFault::Memory)
+    }
+
+    /// Brings what others changed.
+    fn follow(&mut self) -> Result<(), ListFault> {
+        let entries = self.list.next_entries()?;
+        self.standing.note_known(self.list.number());
+        for entry in &entries {
+            self.tell_entry(entry)?;
+        }
+        Ok(())
+    }
+
+    /// Says a line on standard error.
+    fn say(&self, fault: ListFault) {
+        let _ = eprintln!(self.rt; "cluster: {fault}");
+    }
+
+    /// For how long no member answered.
+    fn silence(&mut self) -> Duration {
+        let Ok(now) = Instant::now(&self.rt) else {
+            return Duration::ZERO;
+        };
+        match self.heard {
+            Some(heard) => now.saturating_duration_since(heard),
+            None => {
+                self.heard = Some(now);
+                Duration::ZERO
+            }
+        }
+    }
+
+    /// Notes that a member answered.
+    fn note_answer(&mut self) {
+        self.heard = Instant::now(&self.rt).ok();
+        if self.standing.set_cut(false) {
+            let behind = self.standing.behind();
+            let _ = eprintln!(self.rt; "cluster: members answer again, {behind} changes behind");
+        }
+    }
+
+    /// Notes a fault. Whether the server has parted from the others.
+    fn note_fault(&mut self, fault: ListFault) -> bool {
+        if fault.is_final() {
+            self.say(fault);
+            self.standing.part();
+            return true;
+        }
+        if self.silence() >= Duration::from_secs(SILENCE) && !self.standing.set_cut(true) {
+            let _ = eprintln!(self.rt;
+                "cluster: no member answers for {SILENCE} seconds: changes are answered busy, resolutions go on"
+            );
+        }
+        false
+    }
+
+    /// Looks for what others changed.
+    fn look(&mut self) {
+        match self.follow() {
+            Ok(()) => self.note_answer(),
+            Err(fault) => {
+                self.note_fault(fault);
+            }
+        }
+    }
+
+    /// The write as it is put, if its message reads as the same write.
+    fn put_of(&mut self, write: &OwnWrite) -> Result<Option<Put>, ListFault> {
+        let named = write.as_write();
+        let moment = moment_of(&named);
+        let change = change_of_write(self.alloc, &named)?;
+        let Some(message) = message_of_change(self.alloc, moment, &change)? else {
+            return Ok(None);
+        };
+        let read = change_of_message(self.alloc, message.message.as_slice())?;
+        if !write_of_change(self.alloc, moment, &read)?.is(&named) {
+            return Ok(None);
+        }
+        Ok(Some(self.list.put_of(message, &change)?))
+    }
+
+    /// Sends a change until it is known what became of it. Whether it stands in the list.
+    fn send(&mut self, put: &Put) -> bool {
+        for sent in 0..u64::MAX {
+            let fault = match self.list.send(put) {
+                Ok(answer) => {
+                    self.note_answer();
+                    return answer == Sent::Made;
+                }
+                Err(fault) => fault,
+            };
+            if sent == 0 && is_refusal(fault) {
+                self.say(fault);
+                return false;
+            }
+            if self.note_fault(fault) {
+                return false;
+            }
+            self.standing.note_resent();
+            for _ in 0..WAITS_AGAIN {
+                self.wait();
+            }
+        }
+        false
+    }
+
+    /// Puts a write behind what was told. Whether it stands there.
+    fn put(&mut self, write: &OwnWrite) -> bool {
+        match self.put_of(write) {
+            Ok(Some(put)) => {
+                let is_made = self.send(&put);
+                if !is_made {
+                    self.look();
+                }
+                is_made
+            }
+            Ok(None) => false,
+            Err(fault) => {
+                self.note_fault(fault);
+                false
+            }
+        }
+    }
+
+    /// Puts what is ordered, and tells what became of it.
+    fn serve(&mut self, order: Order) {
+        let Order {
+            write,
+            number,
+            ended,
+        } = order;
+        let is_next = number == self.told && !self.standing.has_parted();
+        if is_next && self.put(&write) {
+            let number = self.list.number();
+            let written = Written {
+                write,
+                number,
+                is_last: true,
+                is_own: true,
+            };
+            // all that was told was taken before this was ordered, so there is room
+            let _ = self.written.put(written);
+            self.told = number;
+            self.standing.note_known(number);
+        } else {
+            self.standing.note_refusal();
+        }
+        ended.store(true, SeqCst);
+    }
+
+    /// Waits until something is ordered, or until it is time to look. The server is woken as long as it hasn't taken all that it was told.
+    fn rest<W: Waking>(&mut self, waking: &W) {
+        waking.wake();
+        for _ in 0..WAITS {
+            if self.orders.sees() {
+                return;
+            }
+            if self.standing.behind() > 0 {
+                waking.wake();
+            }
+            self.wait();
+        }
+    }
+
+    /// Keeps the server beside the others. Once it has parted from them it refuses what is ordered.
+    pub fn keep<W: Waking + Drop>(mut self, waking: W) {
+        for _ in 0..u64::MAX {
+            match self.orders.take() {
+                Some(order) => self.serve(order),
+                None if self.standing.has_parted() => waking.end(),
+                None => self.look(),
+            }
+            self.rest(&waking);
+        }
+    }
+}
+
+/// Whether etcd refused a change, which then isn't made.
+fn is_refusal(fault: ListFault) -> bool {
+    matches!(
+        fault,
+        ListFault::Member(GatewayFault::Refused | GatewayFault::Spent)
+    )
+}

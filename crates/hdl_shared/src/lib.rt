@@ -1,0 +1,41 @@
+//! A server's table beside those of other servers, over one list of changes in etcd.
+//!
+//! ```text
+//! the thread that serves                                        a thread of its own
+//! LastingRows over JournalFile { EtcdJournal } -- orders  -->   Keeper: a transaction for each, sent until its answer is known
+//!                                 EtcdJournal  <- written --    what stands in the list, in its order: this server's writes and the others'
+//! serve_shared, which lets in       EtcdNews   <- changes --    what the others changed
+//! ```
+//!
+//! [`EtcdJournal`] is a `Journal` (hdl_journalrows): what it told is what came by the ring and was taken (`specs/Told.antt`). A write is Made once it is the next that stands in the list.
+//! Another server's is taken only while its change is let in, and this server's own only by the call that ordered it. [`EtcdNews`] is `News` (hdl_serve).
+//!
+//! No clause says what the [`Keeper`] puts into the rings, since a network brings it. That the changes of all servers are one list is the premise of `servers_serve_as_one` (hdl_serve).
+//!
+//! ```rust
+//! // crates/hdl_host/src/sharing.rt
+//! let mut loading = keeper.load()?;
+//! while keeper.load_part(&mut loading)? {
+//!     let_in_all(service, news)?;
+//! }
+//! ```
+//!
+//! # Decisions
+//!
+//! - **A change that lost a race is answered busy**, and nothing of it is done: it was decided on a table that lacks another server's change.
+//! - **A change under way is never given up.** Nobody can tell what became of it until a member answers, so its lane waits. Once no member answered for five seconds each other change is
+//!   answered busy at once.
+//! - **The keeper asks for others' changes** each 20 milliseconds, and beside each change that lost a race. A watch would only bring them sooner.
+#![tactic(auto)]
+
+mod journal;
+mod keeper;
+mod news;
+mod start;
+mod writes;
+
+pub use hdl_members::{GatewayFault, ListFault, Loading, Standing};
+pub use journal::EtcdJournal;
+pub use keeper::{Keeper, Waking};
+pub use news::EtcdNews;
+pub use start::{Beside, SharedRows, prepare};

@@ -1,0 +1,68 @@
+//! What other servers changed.
+
+ghost use Rattle.std.specs.Prelude.{◌≡◌, ◌<◌, true, length};
+ghost use Rattle.hdl_lanes.specs.Lane.{seen_in};
+
+use hdl_lanes::Outlet;
+use hdl_serve::{News, StampedChange};
+use std::sync::Arc;
+use std::sync::atomic::AtomicBool;
+use std::sync::atomic::Ordering::SeqCst;
+
+/// The changes that other servers made, as a thread brings them by a ring.
+#[derive(Drop)]
+pub struct EtcdNews {
+    changes: Outlet<StampedChange>,
+    is_seen: bool,
+    /// Whether the next change is offered to the table, which the journal looks at.
+    is_offered: Arc<AtomicBool>,
+    ghost seen: { is_seen ≡ true → 0 < length (seen_in changes) },
+}
+
+impl EtcdNews {
+    /// News of which nothing was taken yet.
+    pub(crate) fn new(changes: Outlet<StampedChange>, is_offered: Arc<AtomicBool>) -> EtcdNews
+        ensures { result.changes ≡ changes }
+    {
+        EtcdNews {
+            changes,
+            is_seen: false,
+            is_offered,
+        }
+    }
+}
+
+impl News for EtcdNews {
+    ghost use Rattle.hdl_lanes.specs.Lane.{taken_from, seen_in};
+    ghost use Rattle.hdl_shared.specs.Told.{seen_by};
+
+    ghost taken = { λ s. taken_from s.changes };
+
+    ghost seen = { λ s. seen_by s.is_seen (seen_in s.changes) };
+
+    fn look(&mut self) {
+        self.is_seen = false;
+        self.is_seen = self.changes.sees();
+        self.is_offered.store(self.is_seen, SeqCst);
+    }
+
+    fn front(&self) -> Option<&StampedChange> {
+        if self.is_seen {
+            Some(self.changes.front())
+        } else {
+            None
+        }
+    }
+
+    fn take(&mut self) {
+        if self.is_seen {
+            self.is_seen = false;
+            drop(self.changes.take_front());
+        }
+        self.is_offered.store(false, SeqCst);
+    }
+
+    fn leave(&mut self) {
+        self.is_offered.store(false, SeqCst);
+    }
+}

@@ -1,0 +1,558 @@
+"""clusters.py [ROUNDS [SEED]]: tries servers that have one table in etcd, over the program crates/handled/out/handled.
+
+Three members of etcd and three servers run on loopback. In each of ROUNDS rounds (10) clients change and read handles through each server, while members or servers are killed or stopped. Then
+what the clients were told is compared with the list of changes that etcd has, which is read here anew: each entry is behind the one before; a change that was answered stands there once, one that
+was refused or answered busy doesn't, and one without an answer at most once; a change that was asked for behind the answer of another stands behind it; a read is what the list gives, and no
+server goes back; in the end all servers, and the handles in etcd, have the table of the whole list. Then one case each: a server that is cut off, one that starts without a member, and lists that
+went back or were written by somebody else.
+
+Where etcd isn't installed (Debian: etcd-server) nothing is tried, which is said. Its last line is 'N passed, M failed'."""
+
+import base64
+import contextlib
+import hashlib
+import json
+import os
+import random
+import shutil
+import signal
+import socket
+import struct
+import subprocess
+import sys
+import tempfile
+import threading
+import time
+import urllib.error
+import urllib.request
+
+# nothing is left beside the tools
+sys.dont_write_bytecode = True
+import lasting
+import servers
+import wire
+
+ROUNDS, SEED = 10, 1
+MEMBERS, SERVERS, CLIENTS = 3, 3, 2
+BUSY = 3
+# Seconds of a round, and of a fault in it.
+ROUND, FAULT = 2.0, (0.2, 1.2)
+# Handles that clients of all servers change.
+SHARED = [b"10/shared-%d" % number for number in range(4)]
+NAME = b"handles"
+OPENED = b"0.NA/10"
+
+
+# ---- members and servers
+
+class Members:
+    """Members of etcd on loopback, each with a folder of its own."""
+
+    def __init__(self, folder, count=MEMBERS):
+        self.folder, self.ports, self.running = folder, servers.free_ports(2 * count), [None] * count
+        self.count = count
+
+    def address(self, place):
+        return "127.0.0.1:%d" % self.ports[2 * place]
+
+    def peer(self, place):
+        return "http://127.0.0.1:%d" % self.ports[2 * place + 1]
+
+    def words(self, place):
+        client, peer = "http://" + self.address(place), self.peer(place)
+        all_of_them = ",".join("m%d=%s" % (one, self.peer(one)) for one in range(self.count))
+        return [
+            "etcd", "--name", "m%d" % place, "--data-dir", os.path.join(self.folder, "m%d" % place), "--max-txn-ops", "2048",
+            "--listen-client-urls", client, "--advertise-client-urls", client, "--listen-peer-urls", peer, "--initial-advertise-peer-urls", peer,
+            "--initial-cluster", all_of_them, "--initial-cluster-token", "handles", "--initial-cluster-state", "new",
+            "--logger", "zap", "--log-level", "error",
+        ]
+
+    def start(self, place):
+        with open(os.path.join(self.folder, "m%d.log" % place), "ab") as log:
+            self.running[place] = subprocess.Popen(self.words(place), stdout=log, stderr=log)
+
+    def start_all(self):
+        for place in range(self.count):
+            if self.running[place] is None:
+                self.start(place)
+        self.wait()
+
+    def wait(self):
+        """Waits until they answer, as one."""
+        until = time.monotonic() + 30
+        while time.monotonic() < until:
+            with contextlib.suppress(OSError):
+                self.range(b"a")
+                return
+            time.sleep(0.1)
+        sys.exit("etcd doesn't answer")
+
+    def kill(self, place):
+        if self.running[place]:
+            self.running[place].send_signal(signal.SIGCONT)
+            self.running[place].kill()
+            self.running[place].wait()
+            self.running[place] = None
+
+    def send(self, place, number):
+        if self.running[place]:
+            self.running[place].send_signal(number)
+
+    def end(self):
+        for place in range(self.count):
+            self.kill(place)
+
+    def ask(self, path, asked, place):
+        request = urllib.request.Request("http://%s%s" % (self.address(place), path), json.dumps(asked).encode())
+        with urllib.request.urlopen(request, timeout=5) as answer:
+            return json.load(answer)
+
+    def asked(self, path, asked):
+        """What the first member answers that does."""
+        fault = OSError()
+        for place in range(self.count):
+            try:
+                return self.ask(path, asked, place)
+            except OSError as error:
+                fault = error
+        raise fault
+
+    def range(self, first, last=b""):
+        """The keys from one on up to another, with what stands there."""
+        found = self.asked("/v3/kv/range", {"key": spelt(first), "range_end": spelt(last)})
+        return [(base64.b64decode(one["key"]), base64.b64decode(one.get("value", ""))) for one in found.get("kvs", [])]
+
+    def put(self, key, octets):
+        self.asked("/v3/kv/put", {"key": spelt(key), "value": spelt(octets)})
+
+    def delete(self, first, last):
+        self.asked("/v3/kv/deleterange", {"key": spelt(first), "range_end": spelt(last)})
+
+    def leader(self):
+        for place in range(self.count):
+            with contextlib.suppress(OSError, KeyError):
+                told = self.ask("/v3/maintenance/status", {}, place)
+                if told["leader"] == told["header"]["member_id"]:
+                    return place
+        return 0
+
+
+def spelt(octets):
+    return base64.b64encode(octets).decode()
+
+
+class Server:
+    """A server at a port that stays, over the members from one of them on."""
+
+    def __init__(self, members, place, folder):
+        self.port, self.status = servers.free_ports(2)
+        order = [members.address((place + step) % members.count) for step in range(members.count)]
+        self.words = [servers.HANDLED, "serve", "--cluster", ",".join(order), "--status", "127.0.0.1:%d" % self.status]
+        self.errors, self.process = os.path.join(folder, "s%d.log" % place), None
+
+    def start(self):
+        with open(self.errors, "ab") as errors:
+            self.process = servers.start(self.words, lasting.tenants(self.port), 1, stderr=errors)
+        if self.process is None:
+            sys.exit("a server ended: see %s" % self.errors)
+
+    def kill(self):
+        if self.process:
+            self.process.send_signal(signal.SIGCONT)
+            self.process.kill()
+            self.process.wait()
+            self.process.stdout.close()
+            self.process = None
+
+    def send(self, number):
+        if self.process:
+            self.process.send_signal(number)
+
+    def health(self):
+        with contextlib.suppress(OSError):
+            try:
+                with urllib.request.urlopen("http://127.0.0.1:%d/health" % self.status, timeout=5) as answer:
+                    return answer.status
+            except urllib.error.HTTPError as error:
+                return error.code
+        return None
+
+    def said(self):
+        with open(self.errors, encoding="utf-8", errors="replace") as errors:
+            return errors.read()
+
+
+# ---- clients
+
+class Told:
+    """What a client asked for and was told: the code of a change, or the data of a read. None where no answer came."""
+
+    def __init__(self, server, act, handle, data):
+        self.server, self.act, self.handle, self.data = server, act, handle, data
+        self.since, self.until, self.answer = time.monotonic(), None, None
+
+    def end(self, answer):
+        self.answer, self.until = answer, time.monotonic()
+
+
+class Clients:
+    """Clients of all servers, and what they were told."""
+
+    def __init__(self, ports):
+        self.ports, self.told, self.lock, self.ended, self.numbers = ports, [], threading.Lock(), threading.Event(), iter(range(1 << 60))
+
+    def begin(self, server, act, handle, data=None):
+        told = Told(server, act, handle, data)
+        with self.lock:
+            self.told.append(told)
+        return told
+
+    def number(self):
+        with self.lock:
+            return next(self.numbers)
+
+    def act(self, client, server, own, chance):
+        """One request."""
+        handle = chance.choice(SHARED) if chance.random() < 0.4 or not own else chance.choice(own)
+        kind = chance.random()
+        if kind < 0.25:
+            handle = chance.choice(SHARED) if chance.random() < 0.5 else b"10/own-%d" % self.number()
+            told = self.begin(server, "create", handle, b"u%d-" % self.number())
+            told.end(client.create(handle, told.data))
+            if told.answer == wire.SUCCESS and handle not in SHARED:
+                own.append(handle)
+        elif kind < 0.5:
+            told = self.begin(server, "modify", handle, b"u%d-" % self.number())
+            told.end(client.modify(handle, told.data))
+        elif kind < 0.6:
+            told = self.begin(server, "delete", handle)
+            told.end(client.delete(handle))
+        else:
+            told = self.begin(server, "read", handle)
+            told.end((client.data_of(handle),))
+
+    def run(self, server, seed):
+        chance, own = random.Random(seed), []
+        while not self.ended.is_set():
+            with contextlib.suppress(OSError, struct.error), lasting.Client(self.ports[server]) as client:
+                client.stream.settimeout(20 * servers.SLOWER)
+                while not self.ended.is_set():
+                    self.act(client, server, own, chance)
+            time.sleep(0.02)
+
+
+# ---- what is compared
+
+def entry_of(octets):
+    """An entry: its number, the sum before it, and its messages."""
+    number, before, count = struct.unpack(">Q16x32sI", octets[:60])
+    messages, at = [], 60
+    for _ in range(count):
+        length = struct.unpack(">I", octets[at + 8:at + 12])[0]
+        messages.append(octets[at + 12:at + 12 + length])
+        at += 12 + length
+    return number, before, messages if at == len(octets) else None
+
+
+ACTS = {wire.CREATE: "create", wire.MODIFY: "modify", wire.DELETE: "delete", wire.ADD: "add"}
+
+
+def change_of(message):
+    """What a message changes: the act, the handle, and the data of a URL, if it has one."""
+    act, length = ACTS[struct.unpack(">I", message[:4])[0]], struct.unpack(">I", message[24:28])[0]
+    handle, data = message[28:28 + length].lower(), None
+    parts = message[28 + length:].split(b"\0\0\0\3URL")
+    if len(parts) == 2:
+        data = parts[1][4:4 + struct.unpack(">I", parts[1][:4])[0]]
+    return act, handle, data
+
+
+class Journal:
+    """The list of changes, as it stands in etcd."""
+
+    def __init__(self):
+        self.entries, self.faults = {}, []
+
+    def take(self, members):
+        for key, octets in members.range(NAME + b"/e/", NAME + b"/e0"):
+            number = int(key.rsplit(b"/", 1)[1], 16)
+            if self.entries.setdefault(number, octets) != octets:
+                self.faults.append("entry %d was changed" % number)
+
+    def follow(self):
+        """Goes through the list: the states of each handle, with the number from which on it has each, and where each change stands."""
+        self.states, self.places, self.deletes, before = {}, {}, {}, bytes(32)
+        self.last = len(self.entries)
+        for number in range(1, self.last + 1):
+            octets = self.entries.get(number)
+            if octets is None:
+                self.faults.append("there is no entry %d" % number)
+                return
+            own, behind, messages = entry_of(octets)
+            if own != number or behind != before or not messages:
+                self.faults.append("entry %d isn't behind the one before" % number)
+            before = hashlib.sha256(octets).digest()
+            for message in messages or []:
+                self.change(number, *change_of(message))
+        self.sum = before
+
+    def change(self, number, act, handle, data):
+        states = self.states.setdefault(handle, [(0, None)])
+        is_there = states[-1][1] is not None
+        if is_there == (act == "create"):
+            self.faults.append("entry %d can't %s %s" % (number, act, handle))
+        states.append((number, None if act == "delete" else data or b""))
+        if act == "delete":
+            self.deletes.setdefault(handle, []).append(number)
+        elif data:
+            if data in self.places:
+                self.faults.append("%s was made twice" % data)
+            self.places[data] = number
+
+    def first_at(self, handle, data, low):
+        """The first number from `low` on at which a handle has this data."""
+        states = self.states.get(handle, [(0, None)])
+        for (number, found), (end, _) in zip(states, states[1:] + [(1 << 62, None)]):
+            if found == data and end > low:
+                return max(number, low)
+        return None
+
+    def table(self):
+        return {handle: states[-1][1] for handle, states in self.states.items() if states[-1][1] is not None}
+
+
+def compare_changes(journal, told):
+    """The faults of what was told of changes that have data of their own."""
+    for one in told:
+        if one.act not in ("create", "modify"):
+            continue
+        is_made = one.data in journal.places
+        if one.answer == wire.SUCCESS and not is_made:
+            yield "the %s of %s was answered and isn't there" % (one.act, one.data)
+        if one.answer not in (None, wire.SUCCESS) and is_made:
+            yield "the %s of %s was answered %d and is there" % (one.act, one.data, one.answer)
+
+
+def compare_deletes(journal, told):
+    """The faults of what was told of deletes, handle by handle."""
+    counts = {}
+    for one in told:
+        if one.act == "delete":
+            made, open_ones = counts.get(one.handle, (0, 0))
+            counts[one.handle] = (made + (one.answer == wire.SUCCESS), open_ones + (one.answer is None))
+    for handle, (made, open_ones) in counts.items():
+        found = len(journal.deletes.get(handle, []))
+        if not made <= found <= made + open_ones:
+            yield "%s was deleted %d times and not %d to %d times" % (handle, found, made, made + open_ones)
+
+
+def compare_order(journal, told):
+    """The faults of changes that were asked for behind the answer of others."""
+    made = [(one, journal.places[one.data]) for one in told if one.answer == wire.SUCCESS and one.data in journal.places]
+    answered, high, at = sorted(made, key=lambda it: it[0].until), 0, 0
+    for one, number in sorted(made, key=lambda it: it[0].since):
+        while at < len(answered) and answered[at][0].until < one.since:
+            high, at = max(high, answered[at][1]), at + 1
+        if number <= high:
+            yield "entry %d was asked for behind the answer of entry %d" % (number, high)
+
+
+def compare_reads(journal, told, server):
+    """The faults of what a server was read: it has what it answered before, and never goes back."""
+    own = [one for one in told if one.server == server and one.until]
+    events = sorted(own, key=lambda one: one.since)
+    answered, high, at, numbers = sorted(own, key=lambda one: one.until), 0, 0, {}
+    for one in events:
+        while at < len(answered) and answered[at].until < one.since:
+            high, at = max(high, numbers.get(id(answered[at]), 0)), at + 1
+        if one.act == "read":
+            number = journal.first_at(one.handle, one.answer[0], high)
+            if number is None:
+                yield "server %d had %s of %s, which isn't so from %d on" % (server, one.answer[0], one.handle, high)
+            numbers[id(one)] = number or 0
+        elif one.answer == wire.SUCCESS and one.data in journal.places:
+            numbers[id(one)] = journal.places[one.data]
+
+
+def compare_keys(journal, members):
+    """The faults of the handles in etcd, against the table of the list."""
+    handles = {key[len(NAME) + 3:] for key, _ in members.range(NAME + b"/h/", NAME + b"/h0")}
+    data = {}
+    for _, octets in members.range(NAME + b"/v/", NAME + b"/v0"):
+        act, handle, found = change_of(octets[8:])
+        if act == "add" and found is not None:
+            data[handle] = found
+    table = journal.table()
+    if handles != set(table):
+        yield "the handles in etcd aren't those of the list"
+    if data != {handle: found for handle, found in table.items() if found}:
+        yield "the values in etcd aren't those of the list"
+    head = dict(members.range(NAME + b"/head")).get(NAME + b"/head")
+    if head != struct.pack(">Q", journal.last) + journal.sum:
+        yield "the head in etcd isn't that of the list"
+
+
+def compare_servers(journal, running):
+    """The faults of what servers answer in the end."""
+    table = journal.table()
+    handles = [handle for handle in journal.states if handle != OPENED.lower()]
+    for place, server in enumerate(running):
+        with lasting.Client(server.port) as client:
+            for handle in handles:
+                found = client.data_of(handle)
+                if found != table.get(handle):
+                    yield "server %d has %s of %s and not %s" % (place, found, handle, table.get(handle))
+
+
+# ---- rounds
+
+def one_fault(members, running, chance):
+    """Does something to members or servers for a while."""
+    kind, place = chance.randrange(8), chance.randrange(MEMBERS)
+    hit = {0: [place], 1: [members.leader()], 2: [place, (place + 1) % MEMBERS], 3: list(range(MEMBERS))}.get(kind, [])
+    shot = {4: [place], 5: list(range(SERVERS))}.get(kind, [])
+    for one in hit:
+        members.kill(one)
+    for one in shot:
+        running[one].kill()
+    if kind == 6:
+        members.send(place, signal.SIGSTOP)
+    if kind == 7:
+        running[place].send(signal.SIGSTOP)
+    time.sleep(chance.uniform(*FAULT))
+    if kind == 6:
+        members.send(place, signal.SIGCONT)
+    if kind == 7:
+        running[place].send(signal.SIGCONT)
+    members.start_all()
+    for one in shot:
+        running[one].start()
+
+
+def round_of(number, members, running, clients, seed):
+    chance = random.Random(seed * 1000 + number)
+    clients.ended.clear()
+    threads = [threading.Thread(target=clients.run, args=(place % SERVERS, seed * 100000 + number * 100 + place)) for place in range(SERVERS * CLIENTS)]
+    for thread in threads:
+        thread.start()
+    time.sleep(chance.uniform(0.2, 0.6))
+    one_fault(members, running, chance)
+    time.sleep(ROUND)
+    clients.ended.set()
+    for thread in threads:
+        thread.join()
+
+
+def rounds(folder, count, seed):
+    """Whether each round went as it should, with what is compared of all behind them."""
+    members = Members(folder)
+    running = [Server(members, place, folder) for place in range(SERVERS)]
+    clients, journal = Clients([server.port for server in running]), Journal()
+    try:
+        members.start_all()
+        for server in running:
+            server.start()
+        for number in range(count):
+            round_of(number, members, running, clients, seed)
+            journal.take(members)
+            yield "round %d" % number, not journal.faults
+        time.sleep(1)
+        yield from all_compared(journal, members, running, clients.told)
+        yield from cut_off(members, running)
+        yield from written_by_others(members, running)
+    finally:
+        for server in running:
+            server.kill()
+        members.end()
+
+
+def is_clean(what, faults):
+    faults = list(faults)
+    for fault in faults[:10]:
+        print("%s: %s" % (what, fault))
+    return what, not faults
+
+
+def all_compared(journal, members, running, told):
+    journal.take(members)
+    journal.follow()
+    answers = [one.answer for one in told if one.act != "read"]
+    print("%d changes made, %d answered as made, %d busy, %d without an answer, %d reads" % (
+        journal.last, answers.count(wire.SUCCESS), answers.count(BUSY), answers.count(None), len(told) - len(answers)))
+    yield is_clean("one list", journal.faults)
+    yield is_clean("what was answered", compare_changes(journal, told))
+    yield is_clean("deletes", compare_deletes(journal, told))
+    yield is_clean("order", compare_order(journal, told))
+    for place in range(SERVERS):
+        yield is_clean("reads of server %d" % place, compare_reads(journal, told, place))
+    yield is_clean("keys", compare_keys(journal, members))
+    yield is_clean("servers", compare_servers(journal, running))
+
+
+def until(holds, seconds):
+    ends = time.monotonic() + seconds * servers.SLOWER
+    while time.monotonic() < ends:
+        if holds():
+            return True
+        time.sleep(0.1)
+    return False
+
+
+def cut_off(members, running):
+    """Servers without a quorum of members."""
+    server = running[0]
+    with lasting.Client(server.port) as client:
+        client.create(b"10/cut", b"before")
+        members.kill(1)
+        members.kill(2)
+        yield "a server that is cut off says so", until(lambda: server.health() == 503, 20)
+        yield "it answers changes busy", client.modify(b"10/cut", b"while") == BUSY
+        yield "it answers what it has", client.data_of(b"10/cut") == b"before"
+        members.start_all()
+        yield "it goes on", until(lambda: server.health() == 200, 20)
+        yield "it takes changes again", until(lambda: client.modify(b"10/cut", b"after") == wire.SUCCESS, 20)
+        yield "it has said both", "no member answers for 5 seconds" in server.said() and "members answer again" in server.said()
+
+
+def ends_with(server, status, words):
+    """Whether a server ends with this status and these words."""
+    try:
+        return server.process.wait(20 * servers.SLOWER) == status and words in server.said()
+    except subprocess.TimeoutExpired:
+        return False
+
+
+def written_by_others(members, running):
+    """Lists that somebody else wrote, or took back."""
+    last = struct.unpack(">Q", dict(members.range(NAME + b"/head"))[NAME + b"/head"][:8])[0]
+    entry = NAME + b"/e/%016x" % (last + 1)
+    running[2].kill()
+    members.put(entry, struct.pack(">Q16x32sI", last + 1, bytes(32), 0))
+    yield "an entry of somebody else ends a server", ends_with(running[0], 6, "entry %d isn't behind the one before" % (last + 1))
+    members.delete(entry, entry + b"\0")
+    running[2].start()
+    members.delete(NAME + b"/", NAME + b"0")
+    yield "a list that went back ends a server", ends_with(running[2], 6, "the journal went back from %d" % last)
+
+
+def without_members():
+    """A start where no member is."""
+    port, nobody = servers.free_ports(2)
+    words = [servers.HANDLED, "serve", "--cluster", "127.0.0.1:%d" % nobody]
+    done = subprocess.run(words, input=lasting.tenants(port), capture_output=True, check=False)
+    yield "a start without a member is refused", done.returncode == 7 and b"cluster: etcd gave no answer" in done.stderr
+
+
+def main(count=ROUNDS, seed=SEED):
+    if not shutil.which("etcd"):
+        print("etcd isn't installed (Debian: etcd-server): nothing is tried")
+        return servers.tally([])
+    cases = list(without_members())
+    with tempfile.TemporaryDirectory() as folder:
+        cases += rounds(folder, int(count), int(seed))
+    return servers.tally(cases)
+
+
+if __name__ == "__main__":
+    sys.exit(main(*sys.argv[1:]))
