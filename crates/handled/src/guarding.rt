@@ -13,6 +13,8 @@ pub struct TableGuard {
     /// The table's file, where it has one, and what another program had made of it when it was looked at last.
     file: Option<FileWatch>,
     change: Option<FileChange>,
+    /// Whether other servers have the table too. Then a write can be refused since another server's is first, which isn't a fault.
+    is_shared: bool,
     /// When the write that is under way was begun, where the clock said it.
     begun: Option<Instant>,
     /// Whether less memory could be had than is kept aside, when that was seen last.
@@ -26,8 +28,17 @@ impl TableGuard {
             health,
             file,
             change: None,
+            is_shared: false,
             begun: None,
             is_short: false,
+        }
+    }
+
+    /// The guard of a table that other servers have too.
+    pub fn of_shared(rt: &HostRuntime, health: Arc<Health>) -> TableGuard {
+        TableGuard {
+            is_shared: true,
+            ..TableGuard::new(rt, health, None)
         }
     }
 
@@ -79,7 +90,7 @@ impl Guard for TableGuard {
             file.note(&self.rt);
         }
         self.note_commit(fate);
-        if fate != Fate::Deferred {
+        if fate != Fate::Deferred && !self.is_shared {
             self.health.note_write(fate == Fate::Made);
         }
         if self.is_short {

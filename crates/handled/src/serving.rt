@@ -31,7 +31,7 @@ pub fn health_of(setting: &Setting) -> Result<Arc<Health>, Fault> {
 }
 
 /// The guard of a table that is served in this setting, and of its file, where it has one.
-pub fn guard_of(
+fn guard_of(
     rt: &HostRuntime,
     setting: &Setting,
     file: Option<FileWatch>,

@@ -2,9 +2,10 @@
 
 use crate::descriptors::say_descriptors;
 use crate::fault::ProgramFault;
+use crate::guarding::TableGuard;
 use crate::notices::{Notice, TableNotices, begins_line, say_ends};
 use crate::plan::Plan;
-use crate::serving::{ending_of, guard_of, health_of};
+use crate::serving::{ending_of, health_of};
 use hdl_guardedrows::GuardedRows;
 use hdl_host::{Sharing, host_shared};
 use hdl_programs::Fault;
@@ -70,7 +71,7 @@ pub fn serve_cluster<
     let mut output = rt.stdout();
     let ending = ending_of(plan.setting())?;
     let health = health_of(plan.setting())?;
-    let guard = guard_of(rt, plan.setting(), None)?;
+    let guard = TableGuard::of_shared(rt, health_of(plan.setting())?);
     let standing = standing(rt).map_err(Fault::from)?;
     let notices = TableNotices::new(rt, health_of(plan.setting())?);
     let Beside { rows, news, keeper } = beside_of(machine, rt, cluster, &standing, notices)?;

@@ -16,7 +16,37 @@ const IN_A_ROW: u64 = 64;
 #[derive(Drop)]
 pub(crate) struct Parted;
 
-/// Lets in the next change of the news, if one has come and the table owes no write but that of this change. Whether it is in the table.
+/// What became of the next change of the news.
+#[derive(Clone, Copy, Debug, PartialEq, Eq, Drop)]
+pub(crate) enum Next {
+    /// It is in the table.
+    Done,
+    /// It waits, since the table owes another write.
+    Waits,
+    /// None has come, or the table doesn't have it yet.
+    Missing,
+}
+
+/// How far letting in came.
+#[derive(Clone, Copy, Debug, PartialEq, Eq, Drop)]
+pub(crate) struct Progress {
+    /// Whether a change was let in.
+    pub(crate) has_worked: bool,
+    /// Whether another change may wait.
+    pub(crate) is_behind: bool,
+}
+
+/// Whether a change has come. It isn't offered to the table.
+fn has_next<N: News>(news: &mut N) -> bool
+    ensures { N.taken news.new ≡ N.taken news.old }
+{
+    news.look();
+    let has_next = news.front().is_some();
+    news.leave();
+    has_next
+}
+
+/// Lets in the next change of the news, if one has come and the table owes no write but that of this change.
 ///
 /// `is_handed_over` says whether the table owes the write of the next change.
 #[tactic(auto, using(crate::proofs::Sharing::lets_none))]
@@ -24,46 +54,57 @@ fn let_in_next<R: Owing + Drop, N: News>(
     machine: &mut Machine<R>,
     news: &mut N,
     is_handed_over: &mut bool,
-) -> Result<bool, Parted>
+) -> Result<Next, Parted>
     ensures beside { (changes : List StampedChange) × (N.taken news.new ≡ N.taken news.old ++ changes) × RunBeside machine.old.world changes [] [] machine.new.world }
     ensures waits { (R.debt machine.old.rows).owes ≡ true → is_handed_over.old ≡ false → (machine.new ≡ machine.old) × (N.taken news.new ≡ N.taken news.old) }
     ensures parted { IfErr result (λ _. IsUnfit (N.seen news.new) machine.new.world.table) }
 {
     if is_owed(machine.owed()) && !*is_handed_over {
-        return Ok(false);
+        return Ok(if has_next(news) {
+            Next::Waits
+        } else {
+            Next::Missing
+        });
     }
     news.look();
     let Some(next) = news.front() else {
-        return Ok(false);
+        return Ok(Next::Missing);
     };
     let outcome = machine.let_in(next.moment, &next.change);
     *is_handed_over = outcome == LetIn::Owed;
     match outcome {
         LetIn::Done => {
             news.take();
-            Ok(true)
+            Ok(Next::Done)
         }
         LetIn::Unfit => Err(Parted),
         LetIn::Refused | LetIn::Owed => {
             news.leave();
-            Ok(false)
+            Ok(Next::Missing)
         }
     }
 }
 
-/// Lets in the changes that have come, up to 64 of them. Whether any is in the table.
+/// Lets in the changes that have come, up to 64 of them.
 pub(crate) fn let_in_news<R: Owing + Drop, N: News>(
     machine: &mut Machine<R>,
     news: &mut N,
     is_handed_over: &mut bool,
-) -> Result<bool, Parted>
+) -> Result<Progress, Parted>
     ensures beside { (changes : List StampedChange) × (N.taken news.new ≡ N.taken news.old ++ changes) × RunBeside machine.old.world changes [] [] machine.new.world }
     ensures parted { IfErr result (λ _. IsUnfit (N.seen news.new) machine.new.world.table) }
 {
     for count in 0..IN_A_ROW {
-        if !let_in_next(machine, news, is_handed_over)? {
-            return Ok(count > 0);
+        let next = let_in_next(machine, news, is_handed_over)?;
+        if next != Next::Done {
+            return Ok(Progress {
+                has_worked: count > 0,
+                is_behind: next == Next::Waits,
+            });
         }
     }
-    Ok(true)
+    Ok(Progress {
+        has_worked: true,
+        is_behind: true,
+    })
 }

@@ -131,13 +131,14 @@ pub(crate) fn is_owed(owed: Owed) -> bool
     !matches!(owed, Owed::Nothing)
 }
 
-/// Whether the event of a step with this outcome stays, after which the table owes a write or doesn't.
-fn stays(queue: &mut WriteQueue, lane: u16, outcome: &Outcome, owes: bool) -> bool
+/// Whether the event of a step with this outcome stays, after which the table owes a write or doesn't. It stays if it is busy while a change of other servers waits: that change may be
+/// why. Its lane keeps its place among those that wait.
+fn stays(queue: &mut WriteQueue, lane: u16, outcome: &Outcome, owes: bool, is_behind: bool) -> bool
     ensures busy { IsTrue result → is_busy outcome.now ≡ true }
     ensures owed { IsTrue owes → IsFalse result → is_busy outcome.now ≡ false }
     ensures unchanged { IsFalse result → queue.new.lanes ≡ queue.old.lanes }
 {
-    is_busy(outcome) && queue.stays(lane, owes)
+    is_busy(outcome) && (is_behind && !owes || queue.stays(lane, owes))
 }
 
 /// Serves a copy of the lane's next event, which is taken once its outcome is put. Whether it was. No Busy is put while the table owes a write: the event that it owes it
@@ -147,6 +148,7 @@ fn serve_copy<R: Owing + Drop>(
     ends: &mut LaneEnds,
     copy: What,
     queue: &mut WriteQueue,
+    is_behind: bool,
 ) -> bool
     requires room { 0 < known_room ends.old.outcomes }
     requires front { IsFrontOf (Item.Event copy) ends.old.items }
@@ -160,7 +162,7 @@ fn serve_copy<R: Owing + Drop>(
         what: copy,
     };
     let Stepped { outcome, owed } = machine.step(event, may_write);
-    if stays(queue, ends.lane, &outcome, is_owed(owed)) {
+    if stays(queue, ends.lane, &outcome, is_owed(owed), is_behind) {
         return false;
     }
     drop(ends.items.take_front());
@@ -176,6 +178,7 @@ fn serve_front<R: Owing + Drop>(
     ends: &mut LaneEnds,
     ended: &mut bool,
     queue: &mut WriteQueue,
+    is_behind: bool,
 ) -> bool
     ensures served { Serves ended.old ended.new machine.old.world machine.new.world ends.old ends.new }
     ensures owed { (R.debt machine.new.rows).owes ≡ true → PutsNoBusy ends.old ends.new }
@@ -193,7 +196,7 @@ fn serve_front<R: Owing + Drop>(
             *ended = true;
             false
         }
-        Front::Event(copy) => serve_copy(machine, ends, copy, queue),
+        Front::Event(copy) => serve_copy(machine, ends, copy, queue, is_behind),
         Front::NoMemory => false,
     }
 }
@@ -205,12 +208,13 @@ fn serve_next<R: Owing + Drop>(
     ends: &mut LaneEnds,
     ended: &mut bool,
     queue: &mut WriteQueue,
+    is_behind: bool,
 ) -> bool
     ensures served { Serves ended.old ended.new machine.old.world machine.new.world ends.old ends.new }
     ensures owed { (R.debt machine.old.rows).hands_over ≡ true → (R.debt machine.new.rows).owes ≡ true → PutsNoBusy ends.old ends.new }
 {
     if machine.hands_over() {
-        serve_front(alloc, machine, ends, ended, queue)
+        serve_front(alloc, machine, ends, ended, queue, is_behind)
     } else {
         serve_taken(machine, ends, ended)
     }
@@ -237,7 +241,7 @@ fn serve_lane<R: Owing + Drop, C: Clock>(
 {
     runs_joined();
     for served in 0..share.most {
-        if !serve_next(share.alloc, machine, ends, ended, queue) {
+        if !serve_next(share.alloc, machine, ends, ended, queue, share.is_behind) {
             return Given {
                 events: served,
                 is_over: false,
@@ -307,12 +311,13 @@ fn serve_shares<R: Owing + Drop, C: Clock>(
     ensures serving { (w : World) (before : List LaneEnds) (changes : List StampedChange) → IsServing w before changes machine.old.world lanes.old ended.old → IsServing w before changes machine.new.world lanes.new ended.new }
 {
     let most = rota.most;
+    let is_behind = rota.is_behind;
     let mut longest = 0;
     for i in 0..rota.shares.len() {
         let Some(share) = rota.shares.get_mut(i) else {
             return longest;
         };
-        share.begin(most, clock.now());
+        share.begin(most, is_behind, clock.now());
         let served = serve_share(machine, lanes, ended, queue, clock, share);
         longest = longest.max(served);
     }
@@ -326,6 +331,7 @@ fn serve_writer<R: Owing + Drop>(
     lanes: &mut [LaneEnds],
     ended: &mut [bool],
     queue: &mut WriteQueue,
+    is_behind: bool,
 ) -> bool
     requires ended { length ended.old ≡ length lanes.old }
     ensures { (w : World) (before : List LaneEnds) (changes : List StampedChange) → IsServing w before changes machine.old.world lanes.old ended.old → IsServing w before changes machine.new.world lanes.new ended.new }
@@ -336,7 +342,14 @@ fn serve_writer<R: Owing + Drop>(
     let Some(at) = lanes.iter().position(|ends| ends.lane == writer) else {
         return false;
     };
-    serve_next(alloc, machine, &mut lanes[at], &mut ended[at], queue)
+    serve_next(
+        alloc,
+        machine,
+        &mut lanes[at],
+        &mut ended[at],
+        queue,
+        is_behind,
+    )
 }
 
 /// One round: the next event of the lane whose turn it is to write, or where that gives none each publisher's turn. The most that one lane gave.
@@ -353,7 +366,7 @@ pub(crate) fn serve_round<R: Owing + Drop, C: Clock>(
     ensures few { result ≤ rota.old.most }
     ensures serving { (w : World) (before : List LaneEnds) (changes : List StampedChange) → IsServing w before changes machine.old.world lanes.old ended.old → IsServing w before changes machine.new.world lanes.new ended.new }
 {
-    if serve_writer(rota.alloc, machine, lanes, ended, queue) {
+    if serve_writer(rota.alloc, machine, lanes, ended, queue, rota.is_behind) {
         return 1;
     }
     serve_shares(machine, lanes, ended, queue, clock, rota)

@@ -149,6 +149,7 @@ pub fn serve<R: Owing + Drop, C: Clock>(
 
 /// Goes round the lanes as [`serve`] does. Before each round it lets in the changes that the news gives, each once and in order. It waits while the table owes another write.
 /// A change that is refused, or whose write is owed, is let in later. The caller's clock should end a pause if a change comes.
+/// If a change waits for the table's own write, an event that is answered busy stays in its lane: it may have lost a race against that change, and is decided again behind it.
 ///
 /// There is one list of turns and of tables that were taken over. It leads from the service handed in to the one given back. Each of these tables is the one before it with the next
 /// change of the news, which that table could have. The lanes gave the events of the turns and were given their outcomes, as `serve` says it.
@@ -180,10 +181,11 @@ pub fn serve_shared<R: Owing + Drop, C: Clock, N: News>(
     let mut is_handed_over = false;
     let mut has_worked = false;
     while turns > 0 && (has_worked || !have_ended(ended.as_slice(), lanes.len())) {
-        let Ok(has_news) = let_in_news(&mut machine, news, &mut is_handed_over) else {
+        let Ok(progress) = let_in_news(&mut machine, news, &mut is_handed_over) else {
             return end_with(machine, lanes, turns, SharedEnd::Parted);
         };
         rota.most = turns.min(IN_A_ROW);
+        rota.is_behind = progress.is_behind;
         let served = round(
             &mut machine,
             lanes.as_mut_slice(),
@@ -192,7 +194,7 @@ pub fn serve_shared<R: Owing + Drop, C: Clock, N: News>(
             clock,
             &mut rota,
         );
-        has_worked = has_news || served > 0;
+        has_worked = progress.has_worked || served > 0;
         end_round(clock, has_worked);
         turns -= served.max(1);
     }

@@ -17,6 +17,8 @@ pub(crate) struct Share {
     pub(crate) next: usize,
     /// How many events each lane gives at most in this turn.
     pub(crate) most: u64,
+    /// Whether a change of other servers waits. Then an event that is answered busy stays.
+    pub(crate) is_behind: bool,
     /// The moment at which this turn began.
     began: u64,
 }
@@ -30,6 +32,7 @@ impl Share {
             last: place,
             next: place,
             most: 0,
+            is_behind: false,
             began: 0,
         }
     }
@@ -44,10 +47,11 @@ impl Share {
     }
 
     /// A turn begins at this moment, in which each lane gives `most` events at most.
-    pub(crate) fn begin(&mut self, most: u64, moment: u64)
+    pub(crate) fn begin(&mut self, most: u64, is_behind: bool, moment: u64)
         ensures most { self.new.most ≡ most }
     {
         self.most = most;
+        self.is_behind = is_behind;
         self.began = moment;
     }
 
@@ -64,6 +68,8 @@ pub(crate) struct Rota {
     pub(crate) shares: Vec<Share>,
     /// How many events each lane gives at most in the next round.
     pub(crate) most: u64,
+    /// Whether a change of other servers waits. Then an event that is answered busy stays.
+    pub(crate) is_behind: bool,
 }
 
 impl Rota {
@@ -73,6 +79,7 @@ impl Rota {
             alloc,
             shares: Vec::new(alloc),
             most: 0,
+            is_behind: false,
         }
     }
 
