@@ -22,7 +22,8 @@
 //!
 //! # Decisions
 //!
-//! - **A change that lost a race is answered busy**, and nothing of it is done: it was decided on a table that lacks another server's change.
+//! - **A change that lost a race is refused by the table**, since it was decided on one that lacks another server's change. `serve_shared` keeps its event, lets that change in, and
+//!   decides the event again. A client sees a later answer.
 //! - **A change under way is never given up.** Nobody can tell what became of it until a member answers, so its lane waits. Once no member answered for five seconds each other change is
 //!   answered busy at once.
 //! - **The keeper asks for others' changes** each 20 milliseconds, and beside each change that lost a race. A watch would only bring them sooner.
