@@ -1,10 +1,11 @@
 """clusters.py [ROUNDS [SEED]]: tries servers that have one table in etcd, over the program crates/handled/out/handled.
 
-Three members of etcd and three servers run on loopback. In each of ROUNDS rounds (10) clients change and read handles through each server, while members or servers are killed or stopped. Then
+Three members of etcd and three servers run on loopback. In each of ROUNDS rounds (10) clients change and read handles through each server, while members or servers are killed or stopped, or
+the wires between them are cut or held. Then
 what the clients were told is compared with the list of changes that etcd has, which is read here anew: each entry is behind the one before; a change that was answered stands there once, one that
 was refused or answered busy doesn't, and one without an answer at most once; a change that was asked for behind the answer of another stands behind it; a read is what the list gives, and no
-server goes back; in the end all servers, and the handles in etcd, have the table of the whole list. Then one case each: a server that is cut off, one that starts without a member, and lists that
-went back or were written by somebody else.
+server goes back; in the end all servers, and the handles in etcd, have the table of the whole list. Then one case each: a server that is cut off, one that starts without a member, lists that
+went back or were written by somebody else, a member at a Unix socket, a backup that is restored, and members whose space is spent.
 
 Where etcd isn't installed (Debian: etcd-server) nothing is tried, which is said. Its last line is 'N passed, M failed'."""
 
@@ -142,12 +143,66 @@ def spelt(octets):
     return base64.b64encode(octets).decode()
 
 
+class Wire:
+    """A port at which a member answers, until the wire is cut, or held: then it takes what is sent and nothing goes on."""
+
+    def __init__(self, address):
+        self.address, self.streams, self.lock = address, [], threading.Lock()
+        self.goes, self.is_cut = threading.Event(), False
+        self.goes.set()
+        self.listener = socket.create_server(("127.0.0.1", 0))
+        self.port = self.listener.getsockname()[1]
+        threading.Thread(target=self.run, daemon=True).start()
+
+    def run(self):
+        host, port = self.address.rsplit(":", 1)
+        while True:
+            near, _ = self.listener.accept()
+            try:
+                if self.is_cut:
+                    raise OSError
+                far = socket.create_connection((host, int(port)), timeout=5)
+                far.settimeout(None)
+            except OSError:
+                near.close()
+                continue
+            with self.lock:
+                self.streams = [one for one in self.streams if one.fileno() >= 0] + [near, far]
+            for source, sink in ((near, far), (far, near)):
+                threading.Thread(target=self.pass_on, args=(source, sink), daemon=True).start()
+
+    def pass_on(self, source, sink):
+        with contextlib.suppress(OSError):
+            while octets := source.recv(65536):
+                self.goes.wait()
+                sink.sendall(octets)
+        for one in (source, sink):
+            with contextlib.suppress(OSError):
+                one.shutdown(socket.SHUT_RDWR)
+            one.close()
+
+    def cut(self):
+        self.is_cut = True
+        with self.lock:
+            for one in self.streams:
+                with contextlib.suppress(OSError):
+                    one.shutdown(socket.SHUT_RDWR)
+
+    def hold(self):
+        self.goes.clear()
+
+    def mend(self):
+        self.is_cut = False
+        self.goes.set()
+
+
 class Server:
-    """A server at a port that stays, over the members from one of them on."""
+    """A server at a port that stays, over wires to the members from one of them on."""
 
     def __init__(self, members, place, folder):
         self.port, self.status = servers.free_ports(2)
-        order = [members.address((place + step) % members.count) for step in range(members.count)]
+        self.wires = [Wire(members.address((place + step) % members.count)) for step in range(members.count)]
+        order = ["127.0.0.1:%d" % one.port for one in self.wires]
         self.words = [servers.HANDLED, "serve", "--cluster", ",".join(order), "--status", "127.0.0.1:%d" % self.status]
         self.errors, self.process = os.path.join(folder, "s%d.log" % place), None
 
@@ -408,8 +463,8 @@ def compare_servers(journal, running):
 # ---- rounds
 
 def one_fault(members, running, chance):
-    """Does something to members or servers for a while."""
-    kind, place = chance.randrange(8), chance.randrange(MEMBERS)
+    """Does something to members, servers or wires for a while."""
+    kind, place = chance.randrange(11), chance.randrange(MEMBERS)
     hit = {0: [place], 1: [members.leader()], 2: [place, (place + 1) % MEMBERS], 3: list(range(MEMBERS))}.get(kind, [])
     shot = {4: [place], 5: list(range(SERVERS))}.get(kind, [])
     for one in hit:
@@ -420,11 +475,16 @@ def one_fault(members, running, chance):
         members.send(place, signal.SIGSTOP)
     if kind == 7:
         running[place].send(signal.SIGSTOP)
+    struck = {8: running[place].wires[:1], 9: running[place].wires, 10: running[place].wires}.get(kind, [])
+    for one in struck:
+        (one.hold if kind == 10 else one.cut)()
     time.sleep(chance.uniform(*FAULT))
     if kind == 6:
         members.send(place, signal.SIGCONT)
     if kind == 7:
         running[place].send(signal.SIGCONT)
+    for one in struck:
+        one.mend()
     members.start_all()
     for one in shot:
         running[one].start()
@@ -536,6 +596,128 @@ def written_by_others(members, running):
     yield "a list that went back ends a server", ends_with(running[2], 6, "the journal went back from %d" % last)
 
 
+def etcdctl(words, *addresses):
+    """Runs etcdctl, over these members."""
+    ends = ["--endpoints", ",".join(addresses)] if addresses else []
+    subprocess.run(["etcdctl", *ends, *words], env={**os.environ, "ETCDCTL_API": "3"}, check=True, capture_output=True)
+
+
+def restore(members, backup):
+    """Ends all members, and starts them from a backup."""
+    members.end()
+    for place in range(members.count):
+        folder = os.path.join(members.folder, "m%d" % place)
+        shutil.rmtree(folder)
+        words = dict(zip(*[iter(members.words(place)[1:])] * 2))
+        same = ("--name", "--data-dir", "--initial-cluster", "--initial-cluster-token")
+        rest = [word for name in same for word in (name, words[name])]
+        etcdctl(["snapshot", "restore", backup, "--initial-advertise-peer-urls", members.peer(place), *rest])
+    members.start_all()
+
+
+def backups(folder):
+    """A backup of the members is restored under a server, and over a server that starts anew."""
+    os.mkdir(folder)
+    members = Members(folder)
+    server = Server(members, 0, folder)
+    try:
+        members.start_all()
+        server.start()
+        with lasting.Client(server.port) as client:
+            client.create(b"10/kept", b"before")
+            backup = os.path.join(folder, "backup")
+            etcdctl(["snapshot", "save", backup], members.address(0))
+            client.create(b"10/lost", b"behind")
+        restore(members, backup)
+        yield "a restored backup ends a server", ends_with(server, 6, "cluster: the journal went back")
+        server.start()
+        with lasting.Client(server.port) as client:
+            yield "it starts with what the backup has", client.data_of(b"10/kept") == b"before" and client.data_of(b"10/lost") is None
+            yield "it takes changes behind it", client.create(b"10/lost", b"again") == wire.SUCCESS
+    finally:
+        server.kill()
+        members.end()
+
+
+# Octets that a small member has, and those of a value.
+SPACE, LARGE = 4 << 20, 30_000
+
+
+class SmallMembers(Members):
+    """Members with little space."""
+
+    space = SPACE
+
+    def words(self, place):
+        return [*super().words(place), "--quota-backend-bytes", str(self.space)]
+
+
+def spent(folder):
+    """A member whose space is spent, and gets more."""
+    os.mkdir(folder)
+    members = SmallMembers(folder, 1)
+    server = Server(members, 0, folder)
+    try:
+        members.start_all()
+        server.start()
+        with lasting.Client(server.port) as client:
+            count = 0
+            while client.create(b"10/large-%d" % count, b"x" * LARGE) == wire.SUCCESS and count < SPACE // LARGE:
+                count += 1
+            yield "a change for which there is no space is answered busy", client.create(b"10/large", b"x" * LARGE) == BUSY
+            yield "the server says so", until(lambda: "cluster: etcd's space is spent" in server.said(), 5)
+            yield "nothing of it is there", client.data_of(b"10/large") is None
+            yield "what was there is answered", client.data_of(b"10/large-0") == b"x" * LARGE
+            members.kill(0)
+            members.space *= 4
+            members.start_all()
+            etcdctl(["alarm", "disarm"], members.address(0))
+            yield "it takes changes once there is space", until(lambda: client.modify(b"10/large-0", b"less") == wire.SUCCESS, 20)
+    finally:
+        server.kill()
+        members.end()
+
+
+class ClosedMembers(Members):
+    """A member at a Unix socket."""
+
+    def words(self, place):
+        words = super().words(place)
+        address = self.address(place)
+        at = "unix://localhost:" + address.rsplit(":", 1)[1]
+        return [at if word == "http://" + address else word for word in words]
+
+    def start(self, place):
+        with open(os.path.join(self.folder, "m%d.log" % place), "ab") as log:
+            self.running[place] = subprocess.Popen(self.words(place), cwd=self.folder, stdout=log, stderr=log)
+
+    def path(self, place):
+        return os.path.join(self.folder, "localhost:" + self.address(place).rsplit(":", 1)[1])
+
+    def wait(self):
+        until(lambda: os.path.exists(self.path(0)), 30)
+
+
+def closed(folder):
+    """A member that other users of the machine don't reach."""
+    os.mkdir(folder, 0o700)
+    members = ClosedMembers(folder, 1)
+    server = Server(members, 0, folder)
+    server.words[server.words.index("--cluster") + 1] = "unix:" + members.path(0)
+    try:
+        members.start_all()
+        server.start()
+        with lasting.Client(server.port) as client:
+            yield "a member at a Unix socket takes changes", client.create(b"10/closed", b"kept") == wire.SUCCESS
+        server.kill()
+        server.start()
+        with lasting.Client(server.port) as client:
+            yield "it keeps them", client.data_of(b"10/closed") == b"kept"
+    finally:
+        server.kill()
+        members.end()
+
+
 def without_members():
     """A start where no member is."""
     port, nobody = servers.free_ports(2)
@@ -551,6 +733,12 @@ def main(count=ROUNDS, seed=SEED):
     cases = list(without_members())
     with tempfile.TemporaryDirectory() as folder:
         cases += rounds(folder, int(count), int(seed))
+        cases += closed(os.path.join(folder, "closed"))
+        if shutil.which("etcdctl"):
+            cases += backups(os.path.join(folder, "backups"))
+            cases += spent(os.path.join(folder, "spent"))
+        else:
+            print("etcdctl isn't installed (Debian: etcd-client): no backup is restored, and no space is spent")
     return servers.tally(cases)
 
 

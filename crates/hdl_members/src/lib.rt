@@ -28,6 +28,7 @@ mod members;
 mod messages;
 mod opening;
 mod standing;
+mod streams;
 
 pub use fault::ListFault;
 pub use hdl_gateway::GatewayFault;

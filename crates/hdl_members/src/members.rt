@@ -1,14 +1,11 @@
 //! The members of etcd, which are asked in turn.
 
+use crate::streams::MemberStream;
 use hdl_gateway::{Exchange, GatewayFault};
 use std::alloc::Global;
-use std::net::{Net, TcpStream, ToSocketAddrs};
-use std::time::Duration;
+use std::net::{Net, TcpStream};
 
-/// How many seconds a member has to take a connection, a request, and to send more of its answer.
-const PATIENCE: u64 = 1;
-
-/// The members of etcd, by `HOST:PORT`, one of which is asked at a time.
+/// The members of etcd, by `HOST:PORT` or `unix:PATH`, one of which is asked at a time.
 #[derive(Drop)]
 pub struct Members<R> {
     rt: R,
@@ -16,21 +13,7 @@ pub struct Members<R> {
     addresses: Vec<String>,
     /// The place of the one that is asked next.
     at: usize,
-    exchange: Option<Exchange<TcpStream>>,
-}
-
-/// A stream to a member.
-fn connect<R: Net<Stream = TcpStream>>(rt: &R, address: &str) -> Result<TcpStream, GatewayFault> {
-    let patience = Duration::from_secs(PATIENCE);
-    for address in address.to_socket_addrs(rt)? {
-        if let Ok(stream) = TcpStream::connect_timeout(rt, &address, patience) {
-            stream.set_nodelay(true)?;
-            stream.set_read_timeout(Some(patience))?;
-            stream.set_write_timeout(Some(patience))?;
-            return Ok(stream);
-        }
-    }
-    Err(GatewayFault::NoAnswer)
+    exchange: Option<Exchange<MemberStream>>,
 }
 
 impl<R: Net<Stream = TcpStream>> Members<R> {
@@ -50,14 +33,14 @@ impl<R: Net<Stream = TcpStream>> Members<R> {
     }
 
     /// A connection to the member that is asked next.
-    fn exchange(&mut self) -> Result<Exchange<TcpStream>, GatewayFault> {
+    fn exchange(&mut self) -> Result<Exchange<MemberStream>, GatewayFault> {
         if let Some(exchange) = self.exchange.take() {
             return Ok(exchange);
         }
         let Some(address) = self.addresses.get(self.at) else {
             return Err(GatewayFault::NoAnswer);
         };
-        let stream = connect(&self.rt, address.as_str())?;
+        let stream = MemberStream::connect(&self.rt, address.as_str())?;
         Exchange::over(self.alloc, stream)
     }
 

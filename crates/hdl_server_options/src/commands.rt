@@ -97,8 +97,8 @@ fn cluster_args<'a>(alloc: Global, command: Command<'a>) -> Result<Command<'a>, 
         .arg(option(
             alloc,
             "cluster",
-            "HOST:PORT[,..]",
-            "Keeps the table in etcd, by these members of it, so that other servers have the same table",
+            "MEMBER[,..]",
+            "Keeps the table in etcd, so that other servers have the same table: by these members, each as HOST:PORT or unix:PATH",
         )
         .conflicts_with("table")?)?
         .arg(option(

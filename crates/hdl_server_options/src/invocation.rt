@@ -16,7 +16,7 @@ pub struct TableFile {
 /// The words after `--cluster` and `--cluster-name`.
 #[derive(Drop)]
 pub struct ClusterOptions {
-    /// The members of etcd, each as `HOST:PORT`: at least one.
+    /// The members of etcd, each as `HOST:PORT` or `unix:PATH`: at least one.
     pub members: Vec<String>,
     /// What all keys of the cluster begin with.
     pub name: String,

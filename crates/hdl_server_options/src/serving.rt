@@ -145,8 +145,11 @@ fn supervision(alloc: Global, found: &ArgMatches) -> Result<SupervisionOptions, 
 /// The name of a cluster, if none is given.
 const CLUSTER_NAME: &str = "handles";
 
-/// Whether a word is `HOST:PORT`.
+/// Whether a word is `HOST:PORT` or `unix:PATH`.
 fn is_member(word: &str) -> bool {
+    if let Some(path) = word.strip_prefix("unix:") {
+        return !path.is_empty();
+    }
     match word.rsplit_once(':') {
         Some((host, port)) => !host.is_empty() && port.parse::<u16>().is_ok(),
         None => false,

@@ -96,8 +96,8 @@ pub fn print_unclear(rt: &HostRuntime, unclear: Unclear) -> Result<u8, OptionsFa
         Unclear::Member(word) => Ok(refuse_value(
             rt,
             word.as_str(),
-            "--cluster <HOST:PORT[,..]>",
-            "not a member of etcd; write its client address, such as 127.0.0.1:2379",
+            "--cluster <MEMBER[,..]>",
+            "not a member of etcd; write its client address, such as 127.0.0.1:2379 or unix:/run/etcd/localhost:2379",
         )),
         Unclear::ClusterName(word) => Ok(refuse_value(
             rt,

@@ -31,6 +31,9 @@ const WAITS: u32 = 20;
 /// After how many short waits a change without an answer is sent again.
 const WAITS_AGAIN: u32 = 50;
 
+/// A line is printed each time this many handles and values were read.
+const STEP: u64 = 100_000;
+
 /// How the server is told.
 pub trait Waking {
     /// Something came for the table.
@@ -52,6 +55,8 @@ pub struct Keeper<R> {
     standing: Arc<Standing>,
     /// The number of the last entry that was told.
     told: u64,
+    /// How many handles and values of the table were read.
+    loaded: u64,
     /// When a member answered last.
     heard: Option<Instant>,
 }
@@ -93,6 +98,7 @@ impl<R: Net<Stream = TcpStream> + Clock + Eprint + Drop> Keeper<R> {
             orders,
             standing,
             told: 0,
+            loaded: 0,
             heard: None,
         }
     }
@@ -120,10 +126,19 @@ impl<R: Net<Stream = TcpStream> + Clock + Eprint + Drop> Keeper<R> {
         for change in changes {
             let told = self.told_of(change)?;
             self.tell(told, number, true);
+            self.note_loaded();
         }
         self.standing.note_known(number);
         self.standing.note_taken(number);
         Ok(true)
+    }
+
+    /// Notes that one more handle or value was read.
+    fn note_loaded(&mut self) {
+        self.loaded = self.loaded.saturating_add(1);
+        if self.loaded % STEP == 0 {
+            let _ = eprintln!(self.rt; "cluster: {} handles and values read", self.loaded);
+        }
     }
 
     /// A change that stands in the list, with the write that it makes.
