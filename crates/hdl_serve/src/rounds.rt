@@ -11,7 +11,7 @@ ghost use Rattle.hdl_rows.specs.Debt.{is_owed};
 ghost use Rattle.hdl_serve.specs.declared.news.StampedChange.{StampedChange};
 ghost use Rattle.hdl_serve.specs.Rounds.{Answers, IsCopyOf, IsServing, Passes, PutsNoBusy, Serves};
 
-use crate::shares::{Rota, Share};
+use crate::shares::{Rota, Seen, Share};
 use hdl_core::{Machine, Owed, Owing, Stepped};
 use hdl_events::{Event, Outcome, What};
 use hdl_laws::laws::runs_joined;
@@ -148,7 +148,7 @@ fn serve_copy<R: Owing + Drop>(
     ends: &mut LaneEnds,
     copy: What,
     queue: &mut WriteQueue,
-    is_behind: bool,
+    seen: Seen,
 ) -> bool
     requires room { 0 < known_room ends.old.outcomes }
     requires front { IsFrontOf (Item.Event copy) ends.old.items }
@@ -162,7 +162,7 @@ fn serve_copy<R: Owing + Drop>(
         what: copy,
     };
     let Stepped { outcome, owed } = machine.step(event, may_write);
-    if stays(queue, ends.lane, &outcome, is_owed(owed), is_behind) {
+    if stays(queue, ends.lane, &outcome, is_owed(owed), seen.is_behind) {
         return false;
     }
     drop(ends.items.take_front());
@@ -178,12 +178,12 @@ fn serve_front<R: Owing + Drop>(
     ends: &mut LaneEnds,
     ended: &mut bool,
     queue: &mut WriteQueue,
-    is_behind: bool,
+    seen: Seen,
 ) -> bool
     ensures served { Serves ended.old ended.new machine.old.world machine.new.world ends.old ends.new }
     ensures owed { (R.debt machine.new.rows).owes ≡ true → PutsNoBusy ends.old ends.new }
 {
-    let is_under_way = machine.owed() == Owed::UnderWay;
+    let is_under_way = seen.is_under_way || machine.owed() == Owed::UnderWay;
     if *ended || !queue.is_asked(ends.lane, is_under_way) {
         return false;
     }
@@ -196,7 +196,7 @@ fn serve_front<R: Owing + Drop>(
             *ended = true;
             false
         }
-        Front::Event(copy) => serve_copy(machine, ends, copy, queue, is_behind),
+        Front::Event(copy) => serve_copy(machine, ends, copy, queue, seen),
         Front::NoMemory => false,
     }
 }
@@ -208,13 +208,13 @@ fn serve_next<R: Owing + Drop>(
     ends: &mut LaneEnds,
     ended: &mut bool,
     queue: &mut WriteQueue,
-    is_behind: bool,
+    seen: Seen,
 ) -> bool
     ensures served { Serves ended.old ended.new machine.old.world machine.new.world ends.old ends.new }
     ensures owed { (R.debt machine.old.rows).hands_over ≡ true → (R.debt machine.new.rows).owes ≡ true → PutsNoBusy ends.old ends.new }
 {
     if machine.hands_over() {
-        serve_front(alloc, machine, ends, ended, queue, is_behind)
+        serve_front(alloc, machine, ends, ended, queue, seen)
     } else {
         serve_taken(machine, ends, ended)
     }
@@ -241,7 +241,7 @@ fn serve_lane<R: Owing + Drop, C: Clock>(
 {
     runs_joined();
     for served in 0..share.most {
-        if !serve_next(share.alloc, machine, ends, ended, queue, share.is_behind) {
+        if !serve_next(share.alloc, machine, ends, ended, queue, share.seen) {
             return Given {
                 events: served,
                 is_over: false,
@@ -311,13 +311,13 @@ fn serve_shares<R: Owing + Drop, C: Clock>(
     ensures serving { (w : World) (before : List LaneEnds) (changes : List StampedChange) → IsServing w before changes machine.old.world lanes.old ended.old → IsServing w before changes machine.new.world lanes.new ended.new }
 {
     let most = rota.most;
-    let is_behind = rota.is_behind;
+    let seen = rota.seen;
     let mut longest = 0;
     for i in 0..rota.shares.len() {
         let Some(share) = rota.shares.get_mut(i) else {
             return longest;
         };
-        share.begin(most, is_behind, clock.now());
+        share.begin(most, seen, clock.now());
         let served = serve_share(machine, lanes, ended, queue, clock, share);
         longest = longest.max(served);
     }
@@ -331,7 +331,7 @@ fn serve_writer<R: Owing + Drop>(
     lanes: &mut [LaneEnds],
     ended: &mut [bool],
     queue: &mut WriteQueue,
-    is_behind: bool,
+    seen: Seen,
 ) -> bool
     requires ended { length ended.old ≡ length lanes.old }
     ensures { (w : World) (before : List LaneEnds) (changes : List StampedChange) → IsServing w before changes machine.old.world lanes.old ended.old → IsServing w before changes machine.new.world lanes.new ended.new }
@@ -342,14 +342,7 @@ fn serve_writer<R: Owing + Drop>(
     let Some(at) = lanes.iter().position(|ends| ends.lane == writer) else {
         return false;
     };
-    serve_next(
-        alloc,
-        machine,
-        &mut lanes[at],
-        &mut ended[at],
-        queue,
-        is_behind,
-    )
+    serve_next(alloc, machine, &mut lanes[at], &mut ended[at], queue, seen)
 }
 
 /// One round: the next event of the lane whose turn it is to write, or where that gives none each publisher's turn. The most that one lane gave.
@@ -366,7 +359,7 @@ pub(crate) fn serve_round<R: Owing + Drop, C: Clock>(
     ensures few { result ≤ rota.old.most }
     ensures serving { (w : World) (before : List LaneEnds) (changes : List StampedChange) → IsServing w before changes machine.old.world lanes.old ended.old → IsServing w before changes machine.new.world lanes.new ended.new }
 {
-    if serve_writer(rota.alloc, machine, lanes, ended, queue, rota.is_behind) {
+    if serve_writer(rota.alloc, machine, lanes, ended, queue, rota.seen) {
         return 1;
     }
     serve_shares(machine, lanes, ended, queue, clock, rota)

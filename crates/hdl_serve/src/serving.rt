@@ -13,8 +13,8 @@ ghost use Rattle.hdl_workers.specs.Ends.{AreDistinct};
 use crate::letting::let_in_news;
 use crate::news::{News, NoNews};
 use crate::rounds::serve_round;
-use crate::shares::Rota;
-use hdl_core::{Machine, Owing, Rows, Service};
+use crate::shares::{Rota, Seen};
+use hdl_core::{Machine, Owed, Owing, Rows, Service};
 use hdl_laws::laws::{restricted, twin_replies};
 use hdl_queue::WriteQueue;
 use hdl_workers::{Clock, LaneEnds};
@@ -181,11 +181,15 @@ pub fn serve_shared<R: Owing + Drop, C: Clock, N: News>(
     let mut is_handed_over = false;
     let mut has_worked = false;
     while turns > 0 && (has_worked || !have_ended(ended.as_slice(), lanes.len())) {
+        let is_under_way = machine.owed() == Owed::UnderWay;
         let Ok(progress) = let_in_news(&mut machine, news, &mut is_handed_over) else {
             return end_with(machine, lanes, turns, SharedEnd::Parted);
         };
         rota.most = turns.min(IN_A_ROW);
-        rota.is_behind = progress.is_behind;
+        rota.seen = Seen {
+            is_under_way,
+            is_behind: progress.is_behind,
+        };
         let served = round(
             &mut machine,
             lanes.as_mut_slice(),

@@ -6,6 +6,23 @@ use hdl_core::{Machine, Owing};
 use hdl_workers::LaneEnds;
 use std::alloc::{AllocError, Global};
 
+/// What was seen as a round began, first of the table and then of the news.
+#[derive(Clone, Copy, Debug, PartialEq, Eq, Drop)]
+pub(crate) struct Seen {
+    /// Whether the table's write was still being made. It isn't claimed in this round then, since the news were looked at before its end.
+    pub(crate) is_under_way: bool,
+    /// Whether a change of other servers waits. Then an event that is answered busy stays.
+    pub(crate) is_behind: bool,
+}
+
+impl Seen {
+    /// Nothing was under way, and nothing waits.
+    pub(crate) const NOTHING: Seen = Seen {
+        is_under_way: false,
+        is_behind: false,
+    };
+}
+
 /// A publisher's share of each round. Its lanes stand next to each other, and are asked one after another, from the one after that at which its last turn ended.
 #[derive(Drop)]
 pub(crate) struct Share {
@@ -17,8 +34,8 @@ pub(crate) struct Share {
     pub(crate) next: usize,
     /// How many events each lane gives at most in this turn.
     pub(crate) most: u64,
-    /// Whether a change of other servers waits. Then an event that is answered busy stays.
-    pub(crate) is_behind: bool,
+    /// What was seen as this round began.
+    pub(crate) seen: Seen,
     /// The moment at which this turn began.
     began: u64,
 }
@@ -32,7 +49,7 @@ impl Share {
             last: place,
             next: place,
             most: 0,
-            is_behind: false,
+            seen: Seen::NOTHING,
             began: 0,
         }
     }
@@ -47,11 +64,11 @@ impl Share {
     }
 
     /// A turn begins at this moment, in which each lane gives `most` events at most.
-    pub(crate) fn begin(&mut self, most: u64, is_behind: bool, moment: u64)
+    pub(crate) fn begin(&mut self, most: u64, seen: Seen, moment: u64)
         ensures most { self.new.most ≡ most }
     {
         self.most = most;
-        self.is_behind = is_behind;
+        self.seen = seen;
         self.began = moment;
     }
 
@@ -68,8 +85,8 @@ pub(crate) struct Rota {
     pub(crate) shares: Vec<Share>,
     /// How many events each lane gives at most in the next round.
     pub(crate) most: u64,
-    /// Whether a change of other servers waits. Then an event that is answered busy stays.
-    pub(crate) is_behind: bool,
+    /// What was seen as this round began.
+    pub(crate) seen: Seen,
 }
 
 impl Rota {
@@ -79,7 +96,7 @@ impl Rota {
             alloc,
             shares: Vec::new(alloc),
             most: 0,
-            is_behind: false,
+            seen: Seen::NOTHING,
         }
     }
 

@@ -138,10 +138,6 @@ impl Journal for EtcdJournal {
         if is_offered {
             return self.take(write, false);
         }
-        if self.written.sees() {
-            // it was decided on a table that lacks another server's change
-            return WriteState::Refused;
-        }
         self.order(write)
     }
 
