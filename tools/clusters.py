@@ -490,14 +490,18 @@ def one_fault(members, running, chance):
         running[one].start()
 
 
-def round_of(number, members, running, clients, seed):
+def no_fault(members, running, chance):
+    """Leaves all as they are."""
+
+
+def round_of(number, members, running, clients, seed, fault=one_fault):
     chance = random.Random(seed * 1000 + number)
     clients.ended.clear()
     threads = [threading.Thread(target=clients.run, args=(place % SERVERS, seed * 100000 + number * 100 + place)) for place in range(SERVERS * CLIENTS)]
     for thread in threads:
         thread.start()
     time.sleep(chance.uniform(0.2, 0.6))
-    one_fault(members, running, chance)
+    fault(members, running, chance)
     time.sleep(ROUND)
     clients.ended.set()
     for thread in threads:
@@ -513,6 +517,8 @@ def rounds(folder, count, seed):
         members.start_all()
         for server in running:
             server.start()
+        round_of(count, members, running, clients, seed, no_fault)
+        yield "no change is answered busy while all run", BUSY not in [one.answer for one in clients.told]
         for number in range(count):
             round_of(number, members, running, clients, seed)
             journal.take(members)
