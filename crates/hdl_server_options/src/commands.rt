@@ -100,7 +100,7 @@ fn cluster_args<'a>(alloc: Global, command: Command<'a>) -> Result<Command<'a>, 
             "MEMBER[,..]",
             "Keeps the table in etcd, so that other servers have the same table: by these members, each as HOST:PORT or unix:PATH",
         )
-        .conflicts_with("table")?)?
+        .conflicts_with_all(&["table", "row-cache"])?)?
         .arg(option(
             alloc,
             "cluster-name",
