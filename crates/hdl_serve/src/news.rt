@@ -36,6 +36,9 @@ pub trait News {
     /// Leaves the change that is seen: the table doesn't have it yet. It is offered no more until the next look.
     fn leave(&mut self)
         ensures { taken self.new ≡ taken self.old };
+
+    /// Whether nobody can say when a write of this server will have ended.
+    fn is_cut(&self) -> bool;
 }
 
 /// The news of a server beside which there is no other.
@@ -56,4 +59,8 @@ impl News for NoNews {
     fn take(&mut self) {}
 
     fn leave(&mut self) {}
+
+    fn is_cut(&self) -> bool {
+        false
+    }
 }

@@ -133,16 +133,29 @@ pub(crate) fn is_owed(owed: Owed) -> bool
 
 /// Whether the event of a step with this outcome stays, after which the table owes a write or doesn't. It stays if it is busy while a change of other servers waits: that change may be
 /// why. Its lane keeps its place among those that wait.
-fn stays(queue: &mut WriteQueue, lane: u16, outcome: &Outcome, owes: bool, is_behind: bool) -> bool
+fn stays(queue: &mut WriteQueue, lane: u16, outcome: &Outcome, owes: bool, seen: Seen) -> bool
     ensures busy { IsTrue result → is_busy outcome.now ≡ true }
-    ensures owed { IsTrue owes → IsFalse result → is_busy outcome.now ≡ false }
+    ensures owed { IsFalse seen.is_cut → IsTrue owes → IsFalse result → is_busy outcome.now ≡ false }
     ensures unchanged { IsFalse result → queue.new.lanes ≡ queue.old.lanes }
 {
-    is_busy(outcome) && (is_behind && !owes || queue.stays(lane, owes))
+    if !is_busy(outcome) || seen.is_cut && owes && !queue.is_turn(lane) {
+        return false;
+    }
+    seen.is_behind && !owes || queue.stays(lane, owes)
+}
+
+/// Whether an event of the lane may begin a write now, or claim the one that the table owes.
+fn may_write<R: Owing + Drop>(
+    machine: &Machine<R>,
+    queue: &WriteQueue,
+    lane: u16,
+    seen: Seen,
+) -> bool {
+    queue.is_turn(lane) && (!seen.is_behind || is_owed(machine.owed()))
 }
 
 /// Serves a copy of the lane's next event, which is taken once its outcome is put. Whether it was. No Busy is put while the table owes a write: the event that it owes it
-/// stays, and so does each other that is busy meanwhile.
+/// stays, and so does each other that is busy meanwhile, unless nobody can say when that ends.
 fn serve_copy<R: Owing + Drop>(
     machine: &mut Machine<R>,
     ends: &mut LaneEnds,
@@ -153,16 +166,16 @@ fn serve_copy<R: Owing + Drop>(
     requires room { 0 < known_room ends.old.outcomes }
     requires front { IsFrontOf (Item.Event copy) ends.old.items }
     ensures served { Serves false false machine.old.world machine.new.world ends.old ends.new }
-    ensures owed { (R.debt machine.new.rows).owes ≡ true → PutsNoBusy ends.old ends.new }
+    ensures owed { IsFalse seen.is_cut → (R.debt machine.new.rows).owes ≡ true → PutsNoBusy ends.old ends.new }
     ensures left { IsTrue result → queue.new.lanes ≡ without_lane queue.old.lanes ends.old.lane }
 {
-    let may_write = queue.is_turn(ends.lane);
+    let may_write = may_write(machine, queue, ends.lane, seen);
     let event = Event {
         lane: ends.lane,
         what: copy,
     };
     let Stepped { outcome, owed } = machine.step(event, may_write);
-    if stays(queue, ends.lane, &outcome, is_owed(owed), seen.is_behind) {
+    if stays(queue, ends.lane, &outcome, is_owed(owed), seen) {
         return false;
     }
     drop(ends.items.take_front());
@@ -181,10 +194,10 @@ fn serve_front<R: Owing + Drop>(
     seen: Seen,
 ) -> bool
     ensures served { Serves ended.old ended.new machine.old.world machine.new.world ends.old ends.new }
-    ensures owed { (R.debt machine.new.rows).owes ≡ true → PutsNoBusy ends.old ends.new }
+    ensures owed { IsFalse seen.is_cut → (R.debt machine.new.rows).owes ≡ true → PutsNoBusy ends.old ends.new }
 {
     let is_under_way = seen.is_under_way || machine.owed() == Owed::UnderWay;
-    if *ended || !queue.is_asked(ends.lane, is_under_way) {
+    if *ended || !seen.is_cut && !queue.is_asked(ends.lane, is_under_way) {
         return false;
     }
     if !is_ready(ends) {
@@ -211,7 +224,7 @@ fn serve_next<R: Owing + Drop>(
     seen: Seen,
 ) -> bool
     ensures served { Serves ended.old ended.new machine.old.world machine.new.world ends.old ends.new }
-    ensures owed { (R.debt machine.old.rows).hands_over ≡ true → (R.debt machine.new.rows).owes ≡ true → PutsNoBusy ends.old ends.new }
+    ensures owed { IsFalse seen.is_cut → (R.debt machine.old.rows).hands_over ≡ true → (R.debt machine.new.rows).owes ≡ true → PutsNoBusy ends.old ends.new }
 {
     if machine.hands_over() {
         serve_front(alloc, machine, ends, ended, queue, seen)

@@ -150,6 +150,7 @@ pub fn serve<R: Owing + Drop, C: Clock>(
 /// Goes round the lanes as [`serve`] does. Before each round it lets in the changes that the news gives, each once and in order. It waits while the table owes another write.
 /// A change that is refused, or whose write is owed, is let in later. The caller's clock should end a pause if a change comes.
 /// If a change waits for the table's own write, an event that is answered busy stays in its lane: it may have lost a race against that change, and is decided again behind it.
+/// If nobody can say when the table's write will have ended, each event that waits for it is answered busy, but its own.
 ///
 /// There is one list of turns and of tables that were taken over. It leads from the service handed in to the one given back. Each of these tables is the one before it with the next
 /// change of the news, which that table could have. The lanes gave the events of the turns and were given their outcomes, as `serve` says it.
@@ -189,6 +190,7 @@ pub fn serve_shared<R: Owing + Drop, C: Clock, N: News>(
         rota.seen = Seen {
             is_under_way,
             is_behind: progress.is_behind,
+            is_cut: news.is_cut(),
         };
         let served = round(
             &mut machine,

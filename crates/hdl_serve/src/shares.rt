@@ -11,8 +11,10 @@ use std::alloc::{AllocError, Global};
 pub(crate) struct Seen {
     /// Whether the table's write was still being made. It isn't claimed in this round then, since the news were looked at before its end.
     pub(crate) is_under_way: bool,
-    /// Whether a change of other servers waits. Then an event that is answered busy stays.
+    /// Whether a change of other servers waits. Then no write begins, and an event that is answered busy stays.
     pub(crate) is_behind: bool,
+    /// Whether nobody can say when the table's write will have ended. Then each event that waits for it is answered busy, but its own.
+    pub(crate) is_cut: bool,
 }
 
 impl Seen {
@@ -20,6 +22,7 @@ impl Seen {
     pub(crate) const NOTHING: Seen = Seen {
         is_under_way: false,
         is_behind: false,
+        is_cut: false,
     };
 }
 

@@ -4,6 +4,7 @@ ghost use Rattle.std.specs.Prelude.{◌≡◌, ◌<◌, true, length};
 ghost use Rattle.hdl_lanes.specs.Lane.{seen_in};
 
 use hdl_lanes::Outlet;
+use hdl_members::Standing;
 use hdl_serve::{News, StampedChange};
 use std::sync::Arc;
 use std::sync::atomic::AtomicBool;
@@ -16,18 +17,24 @@ pub struct EtcdNews {
     is_seen: bool,
     /// Whether the next change is offered to the table, which the journal looks at.
     is_offered: Arc<AtomicBool>,
+    standing: Arc<Standing>,
     ghost seen: { is_seen ≡ true → 0 < length (seen_in changes) },
 }
 
 impl EtcdNews {
     /// News of which nothing was taken yet.
-    pub(crate) fn new(changes: Outlet<StampedChange>, is_offered: Arc<AtomicBool>) -> EtcdNews
+    pub(crate) fn new(
+        changes: Outlet<StampedChange>,
+        is_offered: Arc<AtomicBool>,
+        standing: Arc<Standing>,
+    ) -> EtcdNews
         ensures { result.changes ≡ changes }
     {
         EtcdNews {
             changes,
             is_seen: false,
             is_offered,
+            standing,
         }
     }
 }
@@ -64,5 +71,9 @@ impl News for EtcdNews {
 
     fn leave(&mut self) {
         self.is_offered.store(false, SeqCst);
+    }
+
+    fn is_cut(&self) -> bool {
+        self.standing.is_cut()
     }
 }

@@ -44,10 +44,11 @@ fn new_rings(alloc: Global, standing: &Arc<Standing>) -> Result<Rings, AllocErro
     let (ordered, orders) = lane(alloc, 1)?;
     let is_offered = Arc::new(alloc, AtomicBool::new(false))?;
     let theirs = Arc::try_clone(&is_offered)?;
-    let standing = Arc::try_clone(standing)?;
+    let journals = Arc::try_clone(standing)?;
+    let news = Arc::try_clone(standing)?;
     Ok(Rings {
-        journal: EtcdJournal::new(alloc, taken, ordered, is_offered, standing),
-        news: EtcdNews::new(seen, theirs),
+        journal: EtcdJournal::new(alloc, taken, ordered, is_offered, journals),
+        news: EtcdNews::new(seen, theirs, news),
         ends: KeeperEnds {
             written,
             changes,
