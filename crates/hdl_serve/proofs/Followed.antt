@@ -1,5 +1,5 @@
 -- Servers whose changes are one list follow it, table by table.
-use Rattle.std.proofs.Common.{◌≡◌, ℕ, ◌<◌, List, [], ◌∷◌, inl, inr, Option, Some, None, option_map, unwrap_or, refl, sym, ap, ◌∙◌, subst}
+use Rattle.std.proofs.Common.{◌≡◌, ℕ, ◌<◌, List, [], ◌∷◌, inl, inr, Option, Some, None, refl, sym, ap, ◌∙◌, subst}
 use Rattle.hdl_rows.specs.Table.{Table}
 use Rattle.hdl_ops.specs.declared.change.Change.{Change}
 use Rattle.hdl_ops.specs.Tables.{apply, apply_if}
@@ -9,10 +9,7 @@ use Rattle.hdl_together.specs.Together.{ServerTurn, at_server}
 use Rattle.hdl_together.specs.Shared.{Part, Took, TookOver, AreParts, AreAmong, IsNextTurn, FollowsList}
 use Rattle.hdl_together.proofs.Following.{kept_by}
 use Rattle.hdl_serve.specs.declared.news.StampedChange.{StampedChange}
-use Rattle.hdl_serve.specs.Shared.{TakeOver, stamped, FollowsChanges}
-
-same_some : {X : Type 0} (x y : X) → Some x ≡ Some y → x ≡ y
-same_some x y e = ap (λ o. unwrap_or o x) e
+use Rattle.hdl_serve.specs.Shared.{TakeOver, IsAsInTurn, FollowsChanges}
 
 no_change : {X : Type 0} (o : Option Change) (change : Change) → o ≡ None → o ≡ Some change → X
 no_change o change none some = let both : None ≡ Some change = sym none ∙ some in absurd cc
@@ -29,7 +26,7 @@ changed_by w step change (inr b) some = no_change step.change change (ap (λ (t 
 
 -- the next change of the list makes this table of that one
 abbrev Makes : ServerTurn → Table → Type 0
-Makes next table = (c : StampedChange) → stamped next.step ≡ Some c → next.step.after.table ≡ apply table c.moment c.change
+Makes next table = (c : StampedChange) → IsAsInTurn next.step c → next.step.after.table ≡ apply table c.moment c.change
 
 -- so it is, as the server that made it says
 makes : (s : ℕ) (w : World) (ps : List Part) (news : List StampedChange) (next : ServerTurn) (changes : List ServerTurn) (table : Table)
@@ -43,11 +40,9 @@ makes s w (Took step ∷ ps) news next changes table own at are along = took (λ
         → IsNextTurn (at_server s step) o (FollowsChanges s ps news) (next ∷ changes) → Makes next table
     took later None none rest = later (kept_by w step are.0 none ∙ at) rest
     took later (Some change) some rest = λ c is.
-        let this : StampedChange = record { moment = moment_of step.event.what; change = change } in
-        let stamp : stamped step ≡ Some this = ap (λ o. option_map (λ x. record { moment = moment_of step.event.what; change = x }) o) some in
-        let same : this ≡ c = same_some this c (sym stamp ∙ sym (ap (λ (d : ServerTurn). stamped d.step) rest.0) ∙ is) in
-        ap (λ (d : ServerTurn). d.step.after.table) rest.0 ∙ changed_by w step change are.0 some
-        ∙ ap (λ t. apply t this.moment this.change) at ∙ ap (λ (x : StampedChange). apply table x.moment x.change) same
+        let mine : IsAsInTurn step c = subst (λ (d : ServerTurn). IsAsInTurn d.step c) rest.0 is in
+        ap (λ (d : ServerTurn). d.step.after.table) rest.0 ∙ changed_by w step mine.0 are.0 mine.1
+        ∙ ap (λ t. apply t (moment_of step.event.what) mine.0) at ∙ mine.2 table
 
 -- a server behind the next change of the list
 record Behind (s : ℕ) (ps : List Part) (next : ServerTurn) (changes : List ServerTurn) : Type 0 where

@@ -1,7 +1,8 @@
 -- What a serving loop does beside other servers: turns of its own, and changes of others that it lets in between them.
-use Rattle.std.specs.Prelude.{◌≡◌, ◌≢◌, ℕ, List, [], ◌∷◌, ◌++◌, Option, Some, None, option_map, All}
+use Rattle.std.specs.Prelude.{◌≡◌, ◌≢◌, ℕ, List, [], ◌∷◌, ◌++◌, Option, Some, None, All}
 use Rattle.std.specs.List.{AllZip}
 use Rattle.hdl_rows.specs.Table.{Table}
+use Rattle.hdl_ops.specs.declared.change.Change.{Change}
 use Rattle.hdl_ops.specs.Tables.{apply, CanApply}
 use Rattle.hdl_laws.specs.Worlds.{World, with_table}
 use Rattle.hdl_laws.specs.Steps.{Turn, moment_of}
@@ -33,18 +34,18 @@ pub record IsShared (w : World) (before : List LaneEnds) (known : List StampedCh
 
 -- ---- one list of changes
 
--- the change of a turn, with the moment of its event
-abbrev pub stamped : Turn → Option StampedChange
-stamped step = option_map (λ change. record { moment = moment_of step.event.what; change = change }) step.change
+-- the turn has a change, and these make the same of each table: that change at the moment of the turn's event, and this one at its own moment
+abbrev pub IsAsInTurn : Turn → StampedChange → Type 0
+IsAsInTurn step given = (change : Change) × (step.change ≡ Some change) × ((table : Table) → apply table (moment_of step.event.what) change ≡ apply table given.moment given.change)
 
--- A server's own changes and those that its news gave are the list, in its order: each of its turns with a change is the next one, and each change that it took over is that of the
+-- A server's own changes and those that its news gave are the list, in its order: each of its turns with a change is the next one, and each change that it took over is as in the
 -- next one, a turn of another server. What is left of the list is of others.
 abbrev pub FollowsChanges : ℕ → List Part → List StampedChange → List ServerTurn → Type 0
 FollowsChanges server [] news changes = AreOfOthers server changes
 FollowsChanges server (Took step ∷ parts) news changes = IsNextTurn (at_server server step) step.change (FollowsChanges server parts news) changes
 FollowsChanges server (TookOver table ∷ parts) [] changes = ⊥
 FollowsChanges server (TookOver table ∷ parts) (change ∷ news) [] = ⊥
-FollowsChanges server (TookOver table ∷ parts) (change ∷ news) (next ∷ changes) = (next.server ≢ server) × (stamped next.step ≡ Some change) × FollowsChanges server parts news changes
+FollowsChanges server (TookOver table ∷ parts) (change ∷ news) (next ∷ changes) = (next.server ≢ server) × IsAsInTurn next.step change × FollowsChanges server parts news changes
 
 -- ---- a change that doesn't fit
 

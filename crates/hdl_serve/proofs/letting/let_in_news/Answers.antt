@@ -8,8 +8,8 @@ loop-count-init g c = lets_none _ _ _ _ refl refl
 pub loop-count-preserved : goal.loop-count-preserved
 loop-count-preserved g c = lets_both _ _ _ _ _ _ c.loop-count.invariant c.let_in_next.ensures.beside
 
-pub returns-in_err-let_in_next-clause-beside : goal.returns-in_err-let_in_next-clause-beside
-returns-in_err-let_in_next-clause-beside g c = lets_both _ _ _ _ _ _ c.loop-count.invariant c.let_in_next.ensures.beside
+pub returns-in_err-next-clause-beside : goal.returns-in_err-next-clause-beside
+returns-in_err-next-clause-beside g c = lets_both _ _ _ _ _ _ c.loop-count.invariant c.let_in_next.ensures.beside
 
-pub returns-then-not-branch-clause-beside : goal.returns-then-not-branch-clause-beside
-returns-then-not-branch-clause-beside g c = lets_both _ _ _ _ _ _ c.loop-count.invariant c.let_in_next.ensures.beside
+pub returns-then-ne-clause-beside : goal.returns-then-ne-clause-beside
+returns-then-ne-clause-beside g c = lets_both _ _ _ _ _ _ c.loop-count.invariant c.let_in_next.ensures.beside

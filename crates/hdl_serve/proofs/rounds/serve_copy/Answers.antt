@@ -7,7 +7,7 @@ pub returns-then-stays-clause-served : goal.returns-then-stays-clause-served
 returns-then-stays-clause-served g c = serves_kept false _ _ _ _ c.args.ends.now c.step-outcome.ensures.step (c.stays.ensures.busy c.if-stays.true)
 
 pub returns-then-stays-clause-owed : goal.returns-then-stays-clause-owed
-returns-then-stays-clause-owed g c = λ owes. puts_nothing c.args.ends.now
+returns-then-stays-clause-owed g c = λ sure owes. puts_nothing c.args.ends.now
 
 pub returns-clause-served : goal.returns-clause-served
 returns-clause-served g c =

@@ -8,13 +8,13 @@ pub returns-then-ended-clause-served : goal.returns-then-ended-clause-served
 returns-then-ended-clause-served g c = serves_none c.args.ended.now c.args.ended.now _ c.args.ends.now c.args.ends.now (passes_nothing c.args.ended.now c.args.ends.now)
 
 pub returns-then-ended-clause-owed : goal.returns-then-ended-clause-owed
-returns-then-ended-clause-owed g c = λ owes. puts_nothing c.args.ends.now
+returns-then-ended-clause-owed g c = λ sure owes. puts_nothing c.args.ends.now
 
 pub returns-then-not-is_ready-clause-served : goal.returns-then-not-is_ready-clause-served
 returns-then-not-is_ready-clause-served g c = serves_none c.args.ended.now c.args.ended.now _ c.args.ends.now c.is_ready.new.ends (c.is_ready.ensures.passes c.args.ended.now)
 
 pub returns-then-not-is_ready-clause-owed : goal.returns-then-not-is_ready-clause-owed
-returns-then-not-is_ready-clause-owed g c = λ owes. puts_none false false c.args.ends.now c.is_ready.new.ends (c.is_ready.ensures.passes false)
+returns-then-not-is_ready-clause-owed g c = λ sure owes. puts_none false false c.args.ends.now c.is_ready.new.ends (c.is_ready.ensures.passes false)
 
 pub returns-in-End : goal.returns-in-End
 returns-in-End g c =
@@ -25,17 +25,17 @@ returns-in-End g c =
     (took_last c.args.ended.now ready taken c.take_front.result c.if-ended.false c.in-End.ensures c.take_front.ensures.front refl c.take_front.ensures.lane refl c.take_front.ensures.taken) in
     record {
       served = serves_none c.args.ended.now true _ c.args.ends.now taken passes;
-      owed = λ owes. puts_none c.args.ended.now true c.args.ends.now taken passes;
+      owed = λ sure owes. puts_none c.args.ended.now true c.args.ends.now taken passes;
     }
 
 pub returns-in-Event-clause-served : goal.returns-in-Event-clause-served
 returns-in-Event-clause-served g c = serves_going c.args.ended.now _ _ c.args.ends.now c.is_ready.new.ends c.serve_copy.new.ends c.if-ended.false (c.is_ready.ensures.passes false) c.serve_copy.ensures.served
 
 pub returns-in-Event-clause-owed : goal.returns-in-Event-clause-owed
-returns-in-Event-clause-owed g c = λ owes. puts_later false false c.args.ends.now c.is_ready.new.ends c.serve_copy.new.ends (c.is_ready.ensures.passes false) (c.serve_copy.ensures.owed owes)
+returns-in-Event-clause-owed g c = λ sure owes. puts_later false false c.args.ends.now c.is_ready.new.ends c.serve_copy.new.ends (c.is_ready.ensures.passes false) (c.serve_copy.ensures.owed sure owes)
 
 pub returns-in-NoMemory-clause-served : goal.returns-in-NoMemory-clause-served
 returns-in-NoMemory-clause-served g c = serves_none c.args.ended.now c.args.ended.now _ c.args.ends.now c.is_ready.new.ends (c.is_ready.ensures.passes c.args.ended.now)
 
 pub returns-in-NoMemory-clause-owed : goal.returns-in-NoMemory-clause-owed
-returns-in-NoMemory-clause-owed g c = λ owes. puts_none false false c.args.ends.now c.is_ready.new.ends (c.is_ready.ensures.passes false)
+returns-in-NoMemory-clause-owed g c = λ sure owes. puts_none false false c.args.ends.now c.is_ready.new.ends (c.is_ready.ensures.passes false)
