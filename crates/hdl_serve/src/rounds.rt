@@ -196,7 +196,7 @@ fn serve_front<R: Owing + Drop>(
     ensures served { Serves ended.old ended.new machine.old.world machine.new.world ends.old ends.new }
     ensures owed { IsFalse seen.is_cut → (R.debt machine.new.rows).owes ≡ true → PutsNoBusy ends.old ends.new }
 {
-    let is_under_way = seen.is_under_way || machine.owed() == Owed::UnderWay;
+    let is_under_way = is_owed(machine.owed()) && !seen.has_ended;
     if *ended || !seen.is_cut && !queue.is_asked(ends.lane, is_under_way) {
         return false;
     }

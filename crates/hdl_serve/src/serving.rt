@@ -182,13 +182,13 @@ pub fn serve_shared<R: Owing + Drop, C: Clock, N: News>(
     let mut is_handed_over = false;
     let mut has_worked = false;
     while turns > 0 && (has_worked || !have_ended(ended.as_slice(), lanes.len())) {
-        let is_under_way = machine.owed() == Owed::UnderWay;
+        let has_ended = machine.owed() == Owed::Ended;
         let Ok(progress) = let_in_news(&mut machine, news, &mut is_handed_over) else {
             return end_with(machine, lanes, turns, SharedEnd::Parted);
         };
         rota.most = turns.min(IN_A_ROW);
         rota.seen = Seen {
-            is_under_way,
+            has_ended,
             is_behind: progress.is_behind,
             is_cut: news.is_cut(),
         };

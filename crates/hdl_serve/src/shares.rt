@@ -9,8 +9,8 @@ use std::alloc::{AllocError, Global};
 /// What was seen as a round began, first of the table and then of the news.
 #[derive(Clone, Copy, Debug, PartialEq, Eq, Drop)]
 pub(crate) struct Seen {
-    /// Whether the table's write was still being made. It isn't claimed in this round then, since the news were looked at before its end.
-    pub(crate) is_under_way: bool,
+    /// Whether the table owed a write that had ended. No other is claimed in this round: the news are looked at behind the end of a write and before it is claimed.
+    pub(crate) has_ended: bool,
     /// Whether a change of other servers waits. Then no write begins, and an event that is answered busy stays.
     pub(crate) is_behind: bool,
     /// Whether nobody can say when the table's write will have ended. Then each event that waits for it is answered busy, but its own.
@@ -18,9 +18,9 @@ pub(crate) struct Seen {
 }
 
 impl Seen {
-    /// Nothing was under way, and nothing waits.
+    /// Nothing was owed, and nothing waits.
     pub(crate) const NOTHING: Seen = Seen {
-        is_under_way: false,
+        has_ended: false,
         is_behind: false,
         is_cut: false,
     };
