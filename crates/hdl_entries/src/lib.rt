@@ -14,7 +14,7 @@
 //! What a network brings is no proof, so a message is a change only if its handle is a name and its values are sound ([`change_of_message`]). Whether the table
 //! allows it is tested by who makes it.
 //!
-//! These are laws of octets. No server uses this crate yet.
+//! These are laws of octets.
 #![tactic(auto)]
 
 mod chain;

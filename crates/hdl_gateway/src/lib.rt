@@ -11,8 +11,6 @@
 //! clock; a stream that waits too long fails.
 //!
 //! Whatever the fault is, nobody can tell whether the request was served. A transaction is then sent again as it was. Its fence lets it be made once at most.
-//!
-//! No server uses this crate yet.
 #![tactic(auto)]
 
 mod answers;

@@ -4,7 +4,7 @@
 //! sets in one transaction can do that. [`laws`] says what follows for any number of servers, in whatever order their puts come and however often each one comes: the
 //! journal only grows, a write that was made keeps its place, and equal numbers of writes are equal tables.
 //!
-//! `specs/Journal.antt` has the definitions, over the table and the writes of hdl_rows. There is no code here, and no server keeps a journal yet.
+//! `specs/Journal.antt` has the definitions, over the table and the writes of hdl_rows. There is no code here.
 #![tactic(auto)]
 
 pub mod laws;

@@ -10,8 +10,6 @@
 //!
 //! A write that memory refuses stays in the journal, where others have read it: [`JournalFile`] refuses to undo it (`undo`: `refused`, `told`). The table owes it
 //! until memory has it.
-//!
-//! No server has such a table yet.
 #![tactic(auto)]
 
 mod told;

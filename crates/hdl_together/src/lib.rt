@@ -9,7 +9,7 @@
 //!
 //! The premises can be met: there are numbers for the lanes of all (`has_numbering`), and one service that has them (`has_whole`).
 //!
-//! It stands on the definitions of hdl_laws alone. There is no code here, and no server runs so yet.
+//! It stands on the definitions of hdl_laws alone. There is no code here.
 #![tactic(auto)]
 
 pub mod laws;
