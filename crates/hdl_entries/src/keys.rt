@@ -15,8 +15,8 @@ use std::alloc::{AllocError, Global};
 /// ```text
 /// NAME/head         how many entries there are, and their sum
 /// NAME/e/NUMBER     an entry, 16 digits
-/// NAME/h/HANDLE     the message that creates a handle with its values
-/// NAME/v/HANDLE/I   the message that adds a value to a handle that is too long for one message, 8 digits
+/// NAME/h/HANDLE     a moment, and the message that creates a handle without values
+/// NAME/v/HANDLE/I   a moment, and the message that adds the value of this index, 8 digits
 /// NAME/o/HANDLE     that a handle was opened with its first values
 /// ```
 #[derive(Clone, Copy)]

@@ -15,6 +15,12 @@
 //! allows it is tested by who makes it.
 //!
 //! These are laws of octets.
+//!
+//! ```rust
+//! // crates/hdl_members/src/list.rt
+//! let entry = read_entry(self.alloc, octets)?;
+//! let behind = Chain::behind(entry.number, octets);
+//! ```
 #![tactic(auto)]
 
 mod chain;

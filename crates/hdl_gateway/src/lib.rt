@@ -11,6 +11,12 @@
 //! clock; a stream that waits too long fails.
 //!
 //! Whatever the fault is, nobody can tell whether the request was served. A transaction is then sent again as it was. Its fence lets it be made once at most.
+//!
+//! ```rust
+//! // crates/hdl_members/src/members.rt
+//! let mut exchange = self.exchange()?;
+//! let body = exchange.ask(path, text)?;
+//! ```
 #![tactic(auto)]
 
 mod answers;

@@ -10,6 +10,12 @@
 //!
 //! A write that memory refuses stays in the journal, where others have read it: [`JournalFile`] refuses to undo it (`undo`: `refused`, `told`). The table owes it
 //! until memory has it.
+//!
+//! ```rust
+//! // crates/hdl_shared/src/start.rt
+//! let file = JournalFile { journal };
+//! LastingRows::over(alloc, PlainRows::new(alloc), file, alarm)
+//! ```
 #![tactic(auto)]
 
 mod told;
