@@ -12,7 +12,6 @@ import sys
 BLOCK = re.compile(r"^//! ```rust\n//! // (crates/\S+\.rt)\n(.*?)^//! ```$", re.M | re.S)
 # Libraries whose functions are laws alone.
 LAWS = ("hdl_follows", "hdl_journal", "hdl_together")
-# Libraries that no code calls yet.
 
 
 def libraries():
