@@ -4,3 +4,4 @@ pub mod Lanes
 pub mod Joined
 pub mod Sharing
 mod Followed
+mod Behind

@@ -13,7 +13,7 @@ use Rattle.hdl_serve.specs.declared.news.StampedChange.{StampedChange}
 use Rattle.hdl_serve.specs.Shared.{TakeOver}
 use Rattle.hdl_serve.specs.Rounds.{RunBeside}
 
-take_joined : (w : World) (ps qs : List Part) (cs ds : List StampedChange) → TakeOver w ps cs → TakeOver (after_parts w ps) qs ds → TakeOver w (ps ++ qs) (cs ++ ds)
+pub take_joined : (w : World) (ps qs : List Part) (cs ds : List StampedChange) → TakeOver w ps cs → TakeOver (after_parts w ps) qs ds → TakeOver w (ps ++ qs) (cs ++ ds)
 take_joined w [] qs cs ds a b = subst (λ xs. TakeOver w qs (xs ++ ds)) (sym a) b
 take_joined w (Took step ∷ ps) qs cs ds a b = take_joined step.after ps qs cs ds a b
 take_joined w (TookOver table ∷ ps) qs [] ds a b = absurd a

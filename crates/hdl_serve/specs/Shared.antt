@@ -47,6 +47,21 @@ FollowsChanges server (TookOver table ∷ parts) [] changes = ⊥
 FollowsChanges server (TookOver table ∷ parts) (change ∷ news) [] = ⊥
 FollowsChanges server (TookOver table ∷ parts) (change ∷ news) (next ∷ changes) = (next.server ≢ server) × IsAsInTurn next.step change × FollowsChanges server parts news changes
 
+-- ---- a server that starts later
+
+-- It began with the table that changes of others had made of the first one: these it took over, and then it served. Both together are these parts and these changes of others.
+pub record ServedBehind (w : World) (before after : List LaneEnds) (parts : List Part) (taken : List StampedChange) : Type 0 where
+  pub missed : List Part
+  pub given : List StampedChange
+  pub no_turns : turns_in missed ≡ []
+  pub took_over : TakeOver w missed given
+  pub known : List StampedChange
+  pub new : World
+  pub later : List StampedChange
+  pub served : IsShared (after_parts w missed) before known new after later
+  pub all_parts : parts ≡ missed ++ served.parts
+  pub all_taken : taken ≡ given ++ served.changes
+
 -- ---- a change that doesn't fit
 
 -- a change is seen, and the table can't have it
