@@ -259,6 +259,7 @@ def close(server):
 CHECK = ". Check that it runs, and its address. It is left out, and tried every three seconds"
 NOWHERE = "The server for changes can't be reached. Nothing was done."
 DONE = wire.message(wire.DELETE, b"", SUCCESS)
+DENIED = "This server takes no such change. If it is read-only, send the change to the server that isn't. Handles under 0.NA can't be created or deleted."
 
 
 def forks():
@@ -272,6 +273,9 @@ def forks():
         second.answer = url
         yield "handles are read at the second", ask(port, "10/b")[0] == 302 and second.asked == [b"10/b"]
         yield "and none is changed there", change(port, "10/b") == (502, {"handle": "10/b", "message": NOWHERE, "responseCode": 2}) and second.asked == [b"10/b"]
+    first, denies = Server(lambda _: DONE), Server(lambda _: wire.message(wire.DELETE, wire.number(0), 5))
+    with proxy((denies, "10"), (first, "10"), options=["--writes"]) as port:
+        yield "who takes no changes says so", change(port, "10/a") == (403, {"handle": "10/a", "message": DENIED, "responseCode": 5}) and not first.asked
     first, second = Server(referral), Server(lambda _: DONE)
     with proxy((first, ""), (second, ""), options=["--writes"]) as port:
         yield "who refers hasn't the prefix", change(port, "40/a")[0] == 200 and (first.asked, second.asked) == ([b"40/a"], [b"40/a"])

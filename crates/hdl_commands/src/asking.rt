@@ -142,6 +142,19 @@ fn way_to_values(operation: OpCode) -> &'static str {
     }
 }
 
+/// What to do about a change that is denied: a server denies all that it takes, or what would make or end a handle under 0.NA.
+fn way_to_change(operation: OpCode) -> &'static str {
+    match operation {
+        OpCode::CreateHandle | OpCode::DeleteHandle => {
+            ": a server with --read-only takes no changes: name the one that does by --server. No server creates or deletes a handle under 0.NA"
+        }
+        OpCode::AddValue | OpCode::RemoveValue | OpCode::ModifyValue => {
+            ": this server takes no changes (--read-only): name the one that does by --server"
+        }
+        _ => "",
+    }
+}
+
 /// What to do about a reply with this code.
 pub(crate) fn way_on(operation: OpCode, code: Option<ResponseCode>) -> &'static str {
     match code {
@@ -149,6 +162,7 @@ pub(crate) fn way_on(operation: OpCode, code: Option<ResponseCode>) -> &'static 
         Some(ResponseCode::ServerBusy) => {
             ": nothing was done: try again; if it stays so, the server's /health says why"
         }
+        Some(ResponseCode::OperationDenied) => way_to_change(operation),
         Some(ResponseCode::ValueInvalid) => way_to_values(operation),
         Some(ResponseCode::InvalidHandle) => ": write PREFIX/NAME, such as 10/a",
         Some(ResponseCode::ServiceReferral) => {
