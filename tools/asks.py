@@ -213,7 +213,7 @@ SERVERS = (
 KEY_REFUSED = "hdl: an HS_SECKEY value is refused on the command line, which others on this machine can read: use `hdl batch`"
 
 # Of a server that can't be reached: its words, and what is said behind them. A broadcast address has no way for a connection.
-NOBODY = "nothing listens there: is a server running? Ask `systemctl status handled`, or start an example by `handled serve < examples/serve.tenants`"
+NOBODY = "nothing listens there: is a server running? Name another one by --server HOST:PORT, ask `systemctl status handled`, or start an example by `handled serve < examples/serve.tenants`"
 NO_PORT = "not of the form HOST:PORT: write a host, a colon and a port, as in 127.0.0.1:2641"
 UNREACHED = (
     ("127.0.0.1:1", NOBODY),

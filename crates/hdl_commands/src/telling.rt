@@ -7,7 +7,7 @@ fn way_on(fault: ConnectFault) -> &'static str {
     match fault {
         ConnectFault::NotHostPort => ": write a host, a colon and a port, as in 127.0.0.1:2641",
         ConnectFault::Refused => {
-            ": is a server running? Ask `systemctl status handled`, or start an example by `handled serve < examples/serve.tenants`"
+            ": is a server running? Name another one by --server HOST:PORT, ask `systemctl status handled`, or start an example by `handled serve < examples/serve.tenants`"
         }
         ConnectFault::UnknownName => ": check --server",
         ConnectFault::NoRoute | ConnectFault::Silent => {
