@@ -360,7 +360,7 @@ def fresh():
 
 
 TEXT_FAULTS = """\
-# Each of these lines but the second, the eighth and those of net's port and first site information is faulty.
+# Each of these lines but the second, the eighth and those of net's port and first site information is faulty; the last three lack only faulty lines.
 publisher acme 8 2641
 publisher acme 4 2642
 publisher Bolt 4 2642
@@ -385,6 +385,9 @@ site net 01
 site acme 00
 site net 0g
 site net
+prefix 20 bolt
+value 20/a 00
+site bolt 00
 """
 TEXT_SAID = """\
 tenants: line 3: publisher given twice: give each publisher a name of its own
