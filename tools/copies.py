@@ -159,7 +159,7 @@ def single(folder, file, copied, ports):
     done = copy(os.path.join(folder, "none.db"), os.path.join(folder, "new.db"))
     yield "no file", (done.returncode, done.stderr[:36], os.path.exists(os.path.join(folder, "new.db"))) == (4, b"copy: the table's file can't be read", False)
     done = copy(file, os.path.join(folder, "none", "new.db"))
-    yield "no folder", (done.returncode, done.stderr[:32]) == (4, b"copy: the copy can't be written:")
+    yield "no folder", (done.returncode, done.stderr) == (4, b"copy: the folder of --to isn't there: make it, or name another path\n")
 
 
 def restore(copied, file, **user):

@@ -90,6 +90,7 @@ impl From<CopyFault> for RestoreFault {
         match fault {
             CopyFault::From(kind) => RestoreFault::From(kind),
             CopyFault::To(kind) => RestoreFault::Place(kind),
+            CopyFault::NoFolder => RestoreFault::Folder(ErrorKind::NotFound),
             CopyFault::Exists => RestoreFault::Left,
             CopyFault::Busy => RestoreFault::Busy,
         }
