@@ -245,16 +245,15 @@ fn ask_with_key(rt: &HostRuntime, question: &Inquiry) -> Result<u8, AskFault> {
 const VALUE_FORM: &str =
     ": write INDEX TYPE TTL PERMISSIONS FORMAT DATA, such as '1 URL 86400 1110 UTF8 https://example.org/'";
 
-/// Whether these octets stand in the word, in capital or small letters.
-fn has(word: &str, octets: &[u8]) -> bool {
-    word.as_bytes()
-        .windows(octets.len().max(1))
-        .any(|part| part.eq_ignore_ascii_case(octets))
+/// Whether a secret may stand in a word: in the line of a key, or in the digits of a value.
+fn may_have_secret(word: &str) -> bool {
+    word.as_bytes().windows(6).any(|part| part.eq_ignore_ascii_case(b"SECKEY")
+        || part.eq_ignore_ascii_case(b"OCTETS"))
 }
 
-/// The word at this place as it is shown. One that may have a secret in it is only counted.
+/// The word at this place as it is shown. One in which a secret may stand is only counted.
 fn shown_word(alloc: Global, place: usize, word: &str) -> Result<String, AllocError> {
-    if has(word, b"SECKEY") || has(word, b"OCTETS") {
+    if may_have_secret(word) {
         return format!(in alloc; "value {}", place.saturating_add(1));
     }
     let printed = printed_octets(alloc, word.as_bytes())?;
