@@ -35,7 +35,7 @@ FRONT = "Find a handle - " + SITE_TEXT, HEADER + """<h1>Find a handle</h1>
 <p class="find"><input id="handle" name="handle" placeholder="10/a" autocapitalize="off" autocomplete="off" spellcheck="false" required> <button>Go to it</button></p>
 </form>
 <p>A handle such as <code>10/a</code> is a lasting name of a text, a picture or data, which may move. Its address here leads to where that is now.</p>
-<p><small>With <code>?noredirect</code> behind a handle its values are shown. <code>/api/handles/</code> and a handle gives them as JSON.</small></p>
+<p><small>An address that ends in <code>?noredirect</code>, such as <code>/10/a?noredirect</code>, shows the values of its handle. <code>/api/handles/10/a</code> gives them as JSON.</small></p>
 </main>
 """ + FOOTER
 ROBOTS = "User-agent: *\nDisallow: /api/\n"

@@ -255,8 +255,11 @@ def close(server):
     server.listener.close()
 
 
+# What a line about a server that fails ends with.
+CHECK = ". Check that it runs, and its address. It is left out, and tried every three seconds"
 NOWHERE = "The server for changes can't be reached. Nothing was done."
 DONE = wire.message(wire.DELETE, b"", SUCCESS)
+DENIED = "This server takes no such change. If it is read-only, send the change to the server that isn't. Handles under 0.NA can't be created or deleted."
 
 
 def forks():
@@ -270,6 +273,9 @@ def forks():
         second.answer = url
         yield "handles are read at the second", ask(port, "10/b")[0] == 302 and second.asked == [b"10/b"]
         yield "and none is changed there", change(port, "10/b") == (502, {"handle": "10/b", "message": NOWHERE, "responseCode": 2}) and second.asked == [b"10/b"]
+    first, denies = Server(lambda _: DONE), Server(lambda _: wire.message(wire.DELETE, wire.number(0), 5))
+    with proxy((denies, "10"), (first, "10"), options=["--writes"]) as port:
+        yield "who takes no changes says so", change(port, "10/a") == (403, {"handle": "10/a", "message": DENIED, "responseCode": 5}) and not first.asked
     first, second = Server(referral), Server(lambda _: DONE)
     with proxy((first, ""), (second, ""), options=["--writes"]) as port:
         yield "who refers hasn't the prefix", change(port, "40/a")[0] == 200 and (first.asked, second.asked) == ([b"40/a"], [b"40/a"])
@@ -296,8 +302,29 @@ def standbys():
     yield "answers of standbys are counted", "\nhdl_proxy_standby_answers_total 2\n" in body_of(port, "/metrics")[1]
     time.sleep(0.2)
     process.terminate()
-    yield "and told", process.communicate()[1].splitlines() == ["hdl: 127.0.0.1:%d: this standby answers, since no other server did" % standby.port,
-                                                               "hdl: 127.0.0.1:%d: this server answers again" % server.port]
+    yield "and told, as are the failure and the return", process.communicate()[1].splitlines() == [
+        "hdl: 127.0.0.1:%d: this server fails: no whole answer within --timeout%s" % (server.port, CHECK),
+        "hdl: 127.0.0.1:%d: this standby answers, since no other server did" % standby.port,
+        "hdl: 127.0.0.1:%d: this server answers again" % server.port]
+
+
+def failures():
+    """A server that fails is told once, however often it is asked, and a name without an address at the start."""
+    closed, other = Server(), Server(lambda _: b"no reply")
+    close(closed)
+    (port,) = servers.free_ports(1)
+    words = [PROGRAM, "--listen", "127.0.0.1:%d" % port, "--timeout", str(TIMEOUT), "--server", "nowhere.invalid:2641=30"]
+    for one, prefix in ((closed, "10"), (other, "20")):
+        words += ["--server", "127.0.0.1:%d=%s" % (one.port, prefix)]
+    process = subprocess.Popen(words, stdin=subprocess.DEVNULL, stdout=subprocess.PIPE, stderr=subprocess.PIPE, text=True)
+    process.stdout.readline()
+    yield "a server that fails at first, and later", [ask(port, handle)[0] for handle in ("10/a", "20/a", "10/b", "20/b")] == [502] * 4 and not time.sleep(LEFT_OUT + 0.5) and ask(port, "10/c")[0] == 502
+    time.sleep(0.2)
+    process.terminate()
+    yield "is told once, with the reason, as is a name without an address", sorted(process.communicate()[1].splitlines()) == sorted([
+        "hdl: nowhere.invalid:2641: this name has no address: check how it is written, and the machine's DNS. Until it has one, this server fails",
+        "hdl: 127.0.0.1:%d: this server fails: there is no connection, or it was closed%s" % (closed.port, CHECK),
+        "hdl: 127.0.0.1:%d: this server fails: what it sends is no reply of a handle server%s" % (other.port, CHECK)])
 
 
 def forgotten():
@@ -535,7 +562,7 @@ def faults():
 
 
 def main():
-    parts = (prefixes, referrals, silence, slowness, changes, forks, standbys, forgotten, anew, kept, ways, aliases, told, unread, full, listeners, faults)
+    parts = (prefixes, referrals, silence, slowness, changes, forks, standbys, failures, forgotten, anew, kept, ways, aliases, told, unread, full, listeners, faults)
     with concurrent.futures.ThreadPoolExecutor(len(parts)) as pool:
         cases = [case for found in pool.map(lambda part: list(part()), parts) for case in found]
     # its hundreds of threads would hold the other parts up

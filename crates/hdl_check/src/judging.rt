@@ -44,7 +44,7 @@ pub(crate) fn kind_of<'a>(alloc: Global, fields: &[&'a str]) -> LineKind<'a> {
     }
 }
 
-/// The accepted lines that others rest on.
+/// The accepted lines that others rest on, and the faulty ones that others would rest on.
 #[derive(Drop)]
 pub(crate) struct Accepted<'a> {
     alloc: Global,
@@ -54,6 +54,10 @@ pub(crate) struct Accepted<'a> {
     sites: LinesBy<'a>,
     /// By handle, in canonical form.
     values: LinesBy<'a>,
+    /// By publisher.
+    faulty_publishers: LinesBy<'a>,
+    /// By prefix, in canonical form.
+    faulty_prefixes: LinesBy<'a>,
 }
 
 impl<'a> Accepted<'a> {
@@ -64,6 +68,8 @@ impl<'a> Accepted<'a> {
             prefixes: LinesBy::new(alloc),
             sites: LinesBy::new(alloc),
             values: LinesBy::new(alloc),
+            faulty_publishers: LinesBy::new(alloc),
+            faulty_prefixes: LinesBy::new(alloc),
         }
     }
 
@@ -113,6 +119,35 @@ impl<'a> Accepted<'a> {
             LineKind::Value(name) => self.values.add(name.canon(), line),
             LineKind::Other => Ok(()),
         }
+    }
+
+    /// Notes that the line of this kind with these fields is faulty.
+    pub(crate) fn note_faulty(
+        &mut self,
+        kind: &LineKind<'_>,
+        fields: &[&str],
+        line: &'a str,
+    ) -> Result<(), AllocError> {
+        match (kind, fields) {
+            (LineKind::Publisher, [_, name, ..]) => {
+                self.faulty_publishers.add(name.as_bytes(), line)
+            }
+            (LineKind::Prefix(prefix), _) => {
+                let prefix = prefix.to_ascii_lowercase(self.alloc)?;
+                self.faulty_prefixes.add(prefix.as_bytes(), line)
+            }
+            _ => Ok(()),
+        }
+    }
+
+    /// Whether a line of this publisher stands before that is faulty.
+    pub(crate) fn has_faulty_publisher(&self, name: &str) -> bool {
+        self.faulty_publishers.has(name.as_bytes())
+    }
+
+    /// Whether a line of this prefix stands before that is faulty.
+    pub(crate) fn has_faulty_prefix(&self, prefix: &[u8]) -> bool {
+        self.faulty_prefixes.has(prefix)
     }
 
     /// Whether a line of a prefix stands before.

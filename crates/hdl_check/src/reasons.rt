@@ -217,3 +217,24 @@ pub(crate) fn reason_of(
         None => String::from_str(alloc, LINE_FORM),
     }
 }
+
+/// Whether a line that is refused for this reason has no fault of its own: it lacks just a line that stands before and is faulty.
+pub(crate) fn is_follow_up(
+    accepted: &Accepted<'_>,
+    kind: &LineKind<'_>,
+    fields: &[&str],
+    reason: &str,
+) -> bool {
+    match (kind, fields) {
+        (LineKind::Prefix(_), [_, _, publisher, ..]) => {
+            reason == UNKNOWN_PUBLISHER && accepted.has_faulty_publisher(publisher)
+        }
+        (LineKind::Site(publisher), _) => {
+            reason == SITE_PUBLISHER && accepted.has_faulty_publisher(publisher)
+        }
+        (LineKind::Value(name), _) => {
+            reason == UNKNOWN_PREFIX && accepted.has_faulty_prefix(name.prefix())
+        }
+        _ => false,
+    }
+}

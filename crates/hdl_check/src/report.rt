@@ -5,7 +5,7 @@ ghost use Rattle.std.specs.Str.Lines.{lines};
 ghost use Rattle.hdl_check.specs.Report.{IsReportOf};
 
 use crate::judging::{Accepted, LineKind, kind_of};
-use crate::reasons::{reason_of, words_of};
+use crate::reasons::{is_follow_up, reason_of, words_of};
 use hdl_tenants::{TenantFault, Tenants};
 use hdl_value::Wire;
 use std::alloc::{AllocError, AllocFailed, Global};
@@ -51,7 +51,7 @@ impl Found {
         Ok(())
     }
 
-    /// Judges the line of this kind with these fields.
+    /// Judges the line of this kind with these fields. One that lacks just a faulty line is no fault more.
     fn judge<'a>(
         &mut self,
         accepted: &mut Accepted<'a>,
@@ -61,7 +61,10 @@ impl Found {
     ) -> Result<(), AllocError> {
         if let Some(fault) = accepted.judge(kind, line)? {
             let words = reason_of(self.alloc, accepted, kind, fields, fault)?;
-            return self.push_fault(self.line, words);
+            if !is_follow_up(accepted, kind, fields, &words) {
+                self.push_fault(self.line, words)?;
+            }
+            return accepted.note_faulty(kind, fields, line);
         }
         accepted.add(kind, line)?;
         self.rest.push_str(line)

@@ -32,6 +32,8 @@ pub enum CopyFault {
     From(ErrorKind),
     /// The copy can't be written.
     To(ErrorKind),
+    /// The folder of the copy isn't there.
+    NoFolder,
     /// There is something at the copy's path.
     Exists,
     /// The log was begun anew at each try.
@@ -50,6 +52,9 @@ impl fmt::Display for CopyFault {
                 f,
                 "copy: the copy can't be written: {}: check its folder, and the room on the disk",
                 PathReason(*kind)
+            ),
+            CopyFault::NoFolder => f.write_str(
+                "copy: the folder of --to isn't there: make it, or name another path",
             ),
             CopyFault::Exists => f.write_str(
                 "copy: there is a file at the path of --to, or at that path with -wal at the end: move it away, or name another path",
@@ -87,6 +92,7 @@ fn make_copy(rt: &HostRuntime, path: &str, is_first: bool) -> Result<File, CopyF
     match options.open(rt, path) {
         Ok(file) => Ok(file),
         Err(e) if e.kind() == ErrorKind::AlreadyExists => Err(CopyFault::Exists),
+        Err(e) if e.kind() == ErrorKind::NotFound => Err(CopyFault::NoFolder),
         Err(e) => Err(CopyFault::To(e.kind())),
     }
 }

@@ -69,7 +69,7 @@ impl fmt::Display for RestoreFault {
             ),
             RestoreFault::Folder(kind) => write!(
                 f,
-                "the folder of the table can't be read: {}: make it, or check the path",
+                "the folder of --table can't be read: {}: make it, or check the path",
                 PathReason(*kind)
             ),
             RestoreFault::Owner { owner, group, user } => write!(
@@ -90,6 +90,7 @@ impl From<CopyFault> for RestoreFault {
         match fault {
             CopyFault::From(kind) => RestoreFault::From(kind),
             CopyFault::To(kind) => RestoreFault::Place(kind),
+            CopyFault::NoFolder => RestoreFault::Folder(ErrorKind::NotFound),
             CopyFault::Exists => RestoreFault::Left,
             CopyFault::Busy => RestoreFault::Busy,
         }
@@ -137,15 +138,11 @@ fn access_at(rt: &HostRuntime, path: &str) -> Result<Access, RestoreFault> {
     }
 }
 
-/// Sees that the folder of the table is there, or names it on standard error.
+/// Sees that the folder of the table is there.
 fn look_at_folder(rt: &HostRuntime, path: &str) -> Result<(), RestoreFault> {
-    let folder = folder_of(path);
-    match fs::metadata(rt, folder) {
+    match fs::metadata(rt, folder_of(path)) {
         Ok(_) => Ok(()),
-        Err(e) => {
-            let _ = eprintln!(rt; "restore: cannot read the folder {folder}");
-            Err(RestoreFault::Folder(e.kind()))
-        }
+        Err(e) => Err(RestoreFault::Folder(e.kind())),
     }
 }
 

@@ -12,7 +12,7 @@ use crate::ways::{KeptAnswers, KeptRedirect};
 use crate::worker::Errand;
 use crossbeam_channel::Sender;
 use futures::channel::oneshot;
-use hdl_client::Reply;
+use hdl_client::{ClientFault, Reply};
 use hdl_forms::TokenKey;
 use hdl_msg::ResponseCode;
 use hdl_name::Name;
@@ -45,6 +45,15 @@ impl ServerRecord {
         let had_failed = *standing != Standing::Fit;
         standing.note_answer();
         had_failed
+    }
+
+    /// Notes that the server failed at this moment, and whether it was fit before.
+    fn note_failure<R: Wait>(&self, rt: &R, now: u64) -> bool {
+        self.failed.fetch_add(1, Ordering::Relaxed);
+        let mut standing = self.standing.lock(rt);
+        let was_fit = *standing == Standing::Fit;
+        standing.note_failure(now);
+        was_fit
     }
 }
 
@@ -369,11 +378,11 @@ impl<R: Wait + Clock> Board<R> {
                 }
                 self.take_reply(place, ask, &reply, mark);
             }
-            Err(NoAnswer::Memory) => ask.refuse(),
-            Err(_) => {
-                let now = self.now();
-                post.failed.fetch_add(1, Ordering::Relaxed);
-                post.standing.lock(&self.rt).note_failure(now);
+            Err(ClientFault::Memory) => ask.refuse(),
+            Err(fault) => {
+                if post.note_failure(&self.rt, self.now()) {
+                    self.tell_failure(place, fault);
+                }
                 ask.miss(Miss::Unreachable);
                 self.forward(ask);
             }

@@ -21,6 +21,7 @@ mod holders;
 mod lifetime;
 mod log;
 mod metrics;
+mod names;
 mod parting;
 mod patient;
 mod response;

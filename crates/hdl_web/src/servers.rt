@@ -4,7 +4,6 @@ use hdl_client::{ClientFault, Connection, Key, Reply, Session, connect_within};
 use hdl_copied::CopiedHandles;
 use hdl_limits::Octets;
 use hdl_msg::{RequestBody, ResponseCode};
-use hdl_proxy::NoAnswer;
 use hdl_value::Wire;
 use hdl_writes::{ChangeServer, NoReply, SUFFIX_LEN};
 use rand::RngExt;
@@ -108,14 +107,6 @@ impl Server {
     }
 }
 
-/// What a client's fault is to who asks.
-fn no_answer(fault: ClientFault) -> NoAnswer {
-    match fault {
-        ClientFault::Memory => NoAnswer::Memory,
-        _ => NoAnswer::Unreachable,
-    }
-}
-
 /// What it is to who asks for a change, where the server wasn't reached.
 fn unreached(fault: ClientFault) -> NoReply {
     match fault {
@@ -135,15 +126,12 @@ fn silent(fault: ClientFault) -> NoReply {
 /// A way to ask without a key.
 pub trait Resolver: Drop {
     /// The reply to a resolution with this message. It may wait, but not for ever.
-    fn ask(&mut self, message: &[u8]) -> Result<Reply, NoAnswer>;
+    fn ask(&mut self, message: &[u8]) -> Result<Reply, ClientFault>;
 }
 
 impl Resolver for Server {
-    fn ask(&mut self, message: &[u8]) -> Result<Reply, NoAnswer> {
-        match self.reply_to(message) {
-            Ok(reply) => Ok(reply),
-            Err(fault) => Err(no_answer(fault)),
-        }
+    fn ask(&mut self, message: &[u8]) -> Result<Reply, ClientFault> {
+        self.reply_to(message)
     }
 }
 

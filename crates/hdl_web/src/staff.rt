@@ -151,7 +151,7 @@ fn token_key<R: RandomSource>(rt: &R) -> io::Result<TokenKey> {
     Ok(TokenKey { inner, outer })
 }
 
-/// The board with these posts; lines of visits go to `visits`, those about standbys to `notices`.
+/// The board with these posts; lines of visits go to `visits`, those about servers to `notices`.
 fn board_of<R>(
     rt: &R,
     plan: Plan,
@@ -198,7 +198,7 @@ where
     Ok(())
 }
 
-/// Starts a thread for each who asks, and gives where questions and orders go; lines of visits go to `visits`, those about standbys to `notices`.
+/// Starts a thread for each who asks, and gives where questions and orders go; lines of visits go to `visits`, those about servers to `notices`.
 pub(crate) fn start_asking<R, S, C>(
     rt: &R,
     staff: Staff<S, C>,

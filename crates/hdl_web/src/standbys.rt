@@ -1,7 +1,9 @@
-//! When standbys answer, and the lines that say so.
+//! How servers stand, and when standbys answer: the lines that say so.
 
 use crate::board::Board;
 use crossbeam_channel::{Receiver, Sender};
+use hdl_client::ClientFault;
+use std::fmt;
 use std::io::Eprint;
 use std::sync::Wait;
 use std::sync::atomic::{AtomicBool, AtomicU64, Ordering};
@@ -10,13 +12,49 @@ use std::time::Clock;
 /// The most lines that wait to be written.
 const NOTICES_MOST: usize = 16;
 
+/// What is said of a server.
+#[derive(Clone, Copy)]
+enum News {
+    /// It is a standby, and answers.
+    StandbyAnswers,
+    /// It had failed, and answers again.
+    ServerAnswers,
+    /// It was fit, and fails.
+    ServerFails(ClientFault),
+}
+
+/// Why a server fails, in few words.
+fn reason(fault: ClientFault) -> &'static str {
+    match fault {
+        ClientFault::TimedOut => "no whole answer within --timeout",
+        ClientFault::NoConnection(_) | ClientFault::Connection | ClientFault::Closed => {
+            "there is no connection, or it was closed"
+        }
+        _ => "what it sends is no reply of a handle server",
+    }
+}
+
+impl fmt::Display for News {
+    fn fmt<W: fmt::Write>(&self, f: &mut fmt::Formatter<W>) -> fmt::Result {
+        match self {
+            News::StandbyAnswers => f.write_str("standby answers, since no other server did"),
+            News::ServerAnswers => f.write_str("server answers again"),
+            News::ServerFails(fault) => {
+                let reason = reason(*fault);
+                write!(
+                    f,
+                    "server fails: {reason}. Check that it runs, and its address. It is left out, and tried every three seconds"
+                )
+            }
+        }
+    }
+}
+
 /// What is said of the server at a place.
 #[derive(Clone, Copy)]
-pub(crate) enum Notice {
-    /// It is a standby, and answers.
-    StandbyAnswers(usize),
-    /// It had failed, and answers again.
-    ServerAnswers(usize),
+pub(crate) struct Notice {
+    place: usize,
+    news: News,
 }
 
 /// What is known of the standbys.
@@ -41,9 +79,9 @@ impl Standbys {
 
 impl<R: Wait + Clock> Board<R> {
     /// Sends a line on its way. One that has no room is lost.
-    fn tell(&self, notice: Notice) {
+    fn tell(&self, place: usize, news: News) {
         if self.standbys.notices.len() < NOTICES_MOST {
-            let _ = self.standbys.notices.send(&self.rt, notice);
+            let _ = self.standbys.notices.send(&self.rt, Notice { place, news });
         }
     }
 
@@ -59,27 +97,29 @@ impl<R: Wait + Clock> Board<R> {
     pub(crate) fn note_standby(&self, place: usize) {
         self.standbys.answers.fetch_add(1, Ordering::Relaxed);
         if !self.standbys.are_answering.swap(true, Ordering::Relaxed) {
-            self.tell(Notice::StandbyAnswers(place));
+            self.tell(place, News::StandbyAnswers);
         }
     }
 
-    /// The server at this place answered, and had failed before. It is told if a standby answered meanwhile.
+    /// The server at this place failed, and was fit before: tells it.
+    pub(crate) fn tell_failure(&self, place: usize, fault: ClientFault) {
+        self.tell(place, News::ServerFails(fault));
+    }
+
+    /// The server at this place answered, and had failed before: tells it.
     pub(crate) fn note_return(&self, place: usize) {
-        if !self.is_standby(place) && self.standbys.are_answering.swap(false, Ordering::Relaxed) {
-            self.tell(Notice::ServerAnswers(place));
+        if !self.is_standby(place) {
+            self.standbys.are_answering.store(false, Ordering::Relaxed);
         }
+        self.tell(place, News::ServerAnswers);
     }
 }
 
 /// Writes these lines, until no sender is left.
 pub(crate) fn write_notices<R: Wait + Eprint>(board: &Board<R>, notices: Receiver<Notice>) {
     for notice in notices.iter(&board.rt) {
-        let (place, what) = match notice {
-            Notice::StandbyAnswers(place) => (place, "standby answers, since no other server did"),
-            Notice::ServerAnswers(place) => (place, "server answers again"),
-        };
-        if let Some(route) = board.routes.get(place) {
-            let _ = eprintln!(&board.rt; "hdl: {}: this {what}", route.address);
+        if let Some(route) = board.routes.get(notice.place) {
+            let _ = eprintln!(&board.rt; "hdl: {}: this {}", route.address, notice.news);
         }
     }
 }
