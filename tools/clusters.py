@@ -4,7 +4,7 @@ Three members of etcd and three servers run on loopback. In each of ROUNDS round
 the wires between them are cut or held. Then
 what the clients were told is compared with the list of changes that etcd has, which is read here anew: each entry is behind the one before; a change that was answered stands there once, one that
 was refused or answered busy doesn't, and one without an answer at most once; a change that was asked for behind the answer of another stands behind it; a read is what the list gives, and no
-server goes back; in the end all servers, and the handles in etcd, have the table of the whole list. Then one case each: a server that is cut off, one that starts without a member, lists that
+server goes back; in the end all servers, and the handles in etcd, have the table of the whole list. Then one case each: a server that is cut off, also while a change is under way, one that starts without a member, lists that
 went back or were written by somebody else, a member at a Unix socket, a backup that is restored, and members whose space is spent.
 
 Where etcd isn't installed (Debian: etcd-server) nothing is tried, which is said. Its last line is 'N passed, M failed'."""
@@ -526,6 +526,7 @@ def rounds(folder, count, seed):
         time.sleep(1)
         yield from all_compared(journal, members, running, clients.told)
         yield from cut_off(members, running)
+        yield from held(running)
         yield from written_by_others(members, running)
     finally:
         for server in running:
@@ -579,6 +580,27 @@ def cut_off(members, running):
         yield "it goes on", until(lambda: server.health() == 200, 20)
         yield "it takes changes again", until(lambda: client.modify(b"10/cut", b"after") == wire.SUCCESS, 20)
         yield "it has said both", "no member answers for 5 seconds" in server.said() and "members answer again" in server.said()
+
+
+def held(running):
+    """A server whose change is under way while no member answers."""
+    server, codes = running[0], []
+    with lasting.Client(server.port) as first, lasting.Client(server.port) as second, lasting.Client(server.port) as third:
+        for client in (first, second):
+            client.stream.settimeout(30 * servers.SLOWER)
+        for one in server.wires:
+            one.hold()
+        waiting = threading.Thread(target=lambda: codes.append(first.modify(b"10/cut", b"held")))
+        waiting.start()
+        time.sleep(0.5)
+        yield "another change is answered busy while one is under way", second.modify(b"10/cut", b"other") == BUSY
+        yield "its lane goes on", second.data_of(b"10/cut") == b"after"
+        yield "others go on", third.data_of(b"10/cut") == b"after"
+        yield "the change under way waits", not codes
+        for one in server.wires:
+            one.mend()
+        waiting.join()
+        yield "it is made once a member answers", codes == [wire.SUCCESS] and third.data_of(b"10/cut") == b"held"
 
 
 def ends_with(server, status, words):

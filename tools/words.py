@@ -28,7 +28,7 @@ MOST = {
     "docs/BELIEVED.md": 1_100,
     "docs/BENCHMARKS.md": 2_600,
     "docs/CLIENT_PROMISES.md": 2_000,
-    "docs/CLUSTER.md": 750,
+    "docs/CLUSTER.md": 900,
     "docs/DECISIONS.md": 5_000,
     "docs/DESIGN.md": 4_300,
     "docs/FILE.md": 1_400,
