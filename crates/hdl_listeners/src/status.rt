@@ -157,6 +157,12 @@ impl StatusPage {
             out,
             "# HELP handled_cluster_changes Changes that the server has, of all servers.\n# TYPE handled_cluster_changes gauge\nhandled_cluster_changes {changes}"
         )?;
+        if let Some((known, sum)) = standing.known() {
+            writeln!(
+                out,
+                "# HELP handled_cluster_sum The first 48 bits of the sum of so many changes: servers with equally many changes have one sum.\n# TYPE handled_cluster_sum gauge\nhandled_cluster_sum{{changes=\"{known}\"}} {sum}"
+            )?;
+        }
         let behind = standing.behind();
         writeln!(
             out,

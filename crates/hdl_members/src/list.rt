@@ -121,6 +121,15 @@ impl<R: Net<Stream = TcpStream>> SharedList<R> {
         self.chain.number
     }
 
+    /// The first six octets of the sum of the entries that were taken, as a number.
+    pub fn short_sum(&self) -> u64 {
+        let mut sum = 0u64;
+        for octet in self.chain.sum.iter().take(6) {
+            sum = (sum << 8) | u64::from(*octet);
+        }
+        sum
+    }
+
     pub(crate) fn key(&self, key: Key<'_>) -> Result<Vec<u8>, AllocError>
         ensures { IfOk result (λ octets. octets.items ≡ key_octets self.now.name.items key.entry) }
     {

@@ -12,6 +12,8 @@ pub struct Standing {
     /// How many changes this server has, and how many it knows of.
     taken: AtomicU64,
     known: AtomicU64,
+    /// A part of the sum of the changes that it knows of.
+    sum: AtomicU64,
     /// How many changes were refused: another server's stands in their place, or etcd doesn't take them.
     refusals: AtomicU64,
     /// How many times a change was sent again.
@@ -28,6 +30,7 @@ impl Standing {
         Standing {
             taken: AtomicU64::new(0),
             known: AtomicU64::new(0),
+            sum: AtomicU64::new(0),
             refusals: AtomicU64::new(0),
             resent: AtomicU64::new(0),
             is_cut: AtomicBool::new(false),
@@ -40,9 +43,24 @@ impl Standing {
         self.taken.store(number, SeqCst);
     }
 
-    /// Notes how many changes it knows of.
-    pub fn note_known(&self, number: u64) {
+    /// Notes how many changes it knows of, and a part of their sum.
+    pub fn note_known(&self, number: u64, sum: u64) {
+        // no number is read with another one's sum
+        self.known.store(0, SeqCst);
+        self.sum.store(sum, SeqCst);
         self.known.store(number, SeqCst);
+    }
+
+    /// How many changes it knows of, and a part of their sum; `None` if these are being noted.
+    pub fn known(&self) -> Option<(u64, u64)> {
+        let number = self.known.load(SeqCst);
+        let sum = self.sum.load(SeqCst);
+        let is_same = self.known.load(SeqCst) == number;
+        if is_same && number > 0 {
+            Some((number, sum))
+        } else {
+            None
+        }
     }
 
     /// Notes that a change was refused.

@@ -128,7 +128,7 @@ impl<R: Net<Stream = TcpStream> + Clock + Eprint + Drop> Keeper<R> {
             self.tell(told, number, true);
             self.note_loaded();
         }
-        self.standing.note_known(number);
+        self.note_known();
         self.standing.note_taken(number);
         Ok(true)
     }
@@ -139,6 +139,12 @@ impl<R: Net<Stream = TcpStream> + Clock + Eprint + Drop> Keeper<R> {
         if self.loaded % STEP == 0 {
             let _ = eprintln!(self.rt; "cluster: {} handles and values read", self.loaded);
         }
+    }
+
+    /// Notes how many changes are known.
+    fn note_known(&self) {
+        self.standing
+            .note_known(self.list.number(), self.list.short_sum());
     }
 
     /// A change that stands in the list, with the write that it makes.
@@ -202,7 +208,7 @@ impl<R: Net<Stream = TcpStream> + Clock + Eprint + Drop> Keeper<R> {
     /// Brings what others changed.
     fn follow(&mut self) -> Result<(), ListFault> {
         let entries = self.list.next_entries()?;
-        self.standing.note_known(self.list.number());
+        self.note_known();
         for entry in &entries {
             self.tell_entry(entry)?;
         }
@@ -339,7 +345,7 @@ impl<R: Net<Stream = TcpStream> + Clock + Eprint + Drop> Keeper<R> {
             // all that was told was taken before this was ordered, so there is room
             let _ = self.written.put(written);
             self.told = number;
-            self.standing.note_known(number);
+            self.note_known();
         } else {
             self.standing.note_refusal();
         }
