@@ -15,6 +15,7 @@ import hashlib
 import json
 import os
 import random
+import re
 import shutil
 import signal
 import socket
@@ -448,6 +449,16 @@ def compare_keys(journal, members):
         yield "the head in etcd isn't that of the list"
 
 
+def compare_sums(running):
+    """The faults of the numbers and sums of changes that servers have in the end."""
+    sums = set()
+    for server in running:
+        with urllib.request.urlopen("http://127.0.0.1:%d/metrics" % server.status, timeout=5) as answer:
+            sums.update(re.findall(r"^handled_cluster_sum\{.*$", answer.read().decode(), re.M))
+    if len(sums) != 1:
+        yield "servers have %s" % sorted(sums)
+
+
 def compare_servers(journal, running):
     """The faults of what servers answer in the end."""
     table = journal.table()
@@ -555,6 +566,7 @@ def all_compared(journal, members, running, told):
         yield is_clean("reads of server %d" % place, compare_reads(journal, told, place))
     yield is_clean("keys", compare_keys(journal, members))
     yield is_clean("servers", compare_servers(journal, running))
+    yield is_clean("sums", compare_sums(running))
 
 
 def until(holds, seconds):

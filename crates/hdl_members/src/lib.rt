@@ -16,7 +16,7 @@
 //! ```rust
 //! // crates/hdl_shared/src/keeper.rt
 //! let entries = self.list.next_entries()?;
-//! self.standing.note_known(self.list.number());
+//! self.note_known();
 //! ```
 #![tactic(auto)]
 
