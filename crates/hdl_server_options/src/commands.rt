@@ -94,13 +94,16 @@ fn read_only_arg<'a>(alloc: Global) -> Result<Arg<'a>, AllocError> {
 /// The options of `serve` by which other servers have the same table.
 fn cluster_args<'a>(alloc: Global, command: Command<'a>) -> Result<Command<'a>, AllocError> {
     command
-        .arg(option(
-            alloc,
-            "cluster",
-            "MEMBER[,..]",
-            "Keeps the table in etcd, so that other servers have the same table: by these members, each as HOST:PORT or unix:PATH",
-        )
-        .conflicts_with_all(&["table", "row-cache"])?)?
+        .arg(
+            option(
+                alloc,
+                "cluster",
+                "MEMBER[,..]",
+                "Keeps the table in etcd, so that other servers have the same table: by these members, each as HOST:PORT or unix:PATH",
+            )
+            .conflicts_with("table")?
+            .conflicts_with("row-cache")?,
+        )?
         .arg(option(
             alloc,
             "cluster-name",
