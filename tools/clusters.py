@@ -207,9 +207,12 @@ class Server:
         self.words = [servers.HANDLED, "serve", "--cluster", ",".join(order), "--status", "127.0.0.1:%d" % self.status]
         self.errors, self.process = os.path.join(folder, "s%d.log" % place), None
 
+    def text(self):
+        return lasting.tenants(self.port)
+
     def start(self):
         with open(self.errors, "ab") as errors:
-            self.process = servers.start(self.words, lasting.tenants(self.port), 1, stderr=errors)
+            self.process = servers.start(self.words, self.text(), 1, stderr=errors)
         if self.process is None:
             sys.exit("a server ended: see %s" % self.errors)
 
