@@ -70,7 +70,7 @@ PARTS = (
 # Parts that measure how long answers take, take up the machine's ports or memory, or use every processor: they run alone, behind the others.
 ALONE = (
     "tools/refuse-memory", "tools/refuse-memory-file", "tools/refuse-memory-served", "tools/refuse-disk", "tools/strangers.py", "tools/crowd.py", "tools/ports.py",
-    "tools/rests.py", "tools/routes.py", "tools/operates.py", "tools/starves.py",
+    "tools/rests.py", "tools/routes.py", "tools/operates.py", "tools/starves.py", "tools/clusters.py",
 )
 printing = threading.Lock()
 
