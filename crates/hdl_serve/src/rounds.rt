@@ -1,12 +1,12 @@
 //! A round over the lanes: each gives some of its events, and is given their outcomes.
 
-ghost use Rattle.std.specs.Prelude.{◌≡◌, ◌≤◌, ◌<◌, ◌∷◌, [], Bool, true, false, List, length, IfOk, IsTrue, IsFalse, MatchOption};
+ghost use Rattle.std.specs.Prelude.{◌≡◌, ◌≤◌, ◌<◌, ◌⊎◌, ◌∷◌, [], Bool, true, false, List, length, IfOk, IsTrue, IsFalse, MatchOption};
 ghost use Rattle.hdl_lanes.specs.Lane.{known_room, seen_in, IsFrontOf};
 ghost use Rattle.hdl_laws.specs.Worlds.{World};
 ghost use Rattle.hdl_laws.specs.Runs.{is_busy};
 ghost use Rattle.hdl_workers.specs.declared.item.Item.{Item};
 ghost use Rattle.hdl_workers.specs.declared.ends.LaneEnds.{LaneEnds};
-ghost use Rattle.hdl_queue.specs.Waiting.{without_lane};
+ghost use Rattle.hdl_queue.specs.Waiting.{is_turn, without_lane};
 ghost use Rattle.hdl_rows.specs.Debt.{is_owed};
 ghost use Rattle.hdl_serve.specs.declared.news.StampedChange.{StampedChange};
 ghost use Rattle.hdl_serve.specs.Rounds.{Answers, IsCopyOf, IsServing, Passes, PutsNoBusy, Serves};
@@ -135,7 +135,7 @@ pub(crate) fn is_owed(owed: Owed) -> bool
 /// why. Its lane keeps its place among those that wait.
 fn stays(queue: &mut WriteQueue, lane: u16, outcome: &Outcome, owes: bool, seen: Seen) -> bool
     ensures busy { IsTrue result → is_busy outcome.now ≡ true }
-    ensures owed { IsFalse seen.is_cut → IsTrue owes → IsFalse result → is_busy outcome.now ≡ false }
+    ensures owed { IsFalse seen.is_cut ⊎ (is_turn queue.old lane ≡ true) → IsTrue owes → IsFalse result → is_busy outcome.now ≡ false }
     ensures unchanged { IsFalse result → queue.new.lanes ≡ queue.old.lanes }
 {
     if !is_busy(outcome) || seen.is_cut && owes && !queue.is_turn(lane) {
@@ -166,7 +166,7 @@ fn serve_copy<R: Owing + Drop>(
     requires room { 0 < known_room ends.old.outcomes }
     requires front { IsFrontOf (Item.Event copy) ends.old.items }
     ensures served { Serves false false machine.old.world machine.new.world ends.old ends.new }
-    ensures owed { IsFalse seen.is_cut → (R.debt machine.new.rows).owes ≡ true → PutsNoBusy ends.old ends.new }
+    ensures owed { IsFalse seen.is_cut ⊎ (is_turn queue.old ends.old.lane ≡ true) → (R.debt machine.new.rows).owes ≡ true → PutsNoBusy ends.old ends.new }
     ensures left { IsTrue result → queue.new.lanes ≡ without_lane queue.old.lanes ends.old.lane }
 {
     let may_write = may_write(machine, queue, ends.lane, seen);
@@ -194,7 +194,7 @@ fn serve_front<R: Owing + Drop>(
     seen: Seen,
 ) -> bool
     ensures served { Serves ended.old ended.new machine.old.world machine.new.world ends.old ends.new }
-    ensures owed { IsFalse seen.is_cut → (R.debt machine.new.rows).owes ≡ true → PutsNoBusy ends.old ends.new }
+    ensures owed { IsFalse seen.is_cut ⊎ (is_turn queue.old ends.old.lane ≡ true) → (R.debt machine.new.rows).owes ≡ true → PutsNoBusy ends.old ends.new }
 {
     let is_under_way = is_owed(machine.owed()) && !seen.has_ended;
     if *ended || !seen.is_cut && !queue.is_asked(ends.lane, is_under_way) {
@@ -224,7 +224,7 @@ fn serve_next<R: Owing + Drop>(
     seen: Seen,
 ) -> bool
     ensures served { Serves ended.old ended.new machine.old.world machine.new.world ends.old ends.new }
-    ensures owed { IsFalse seen.is_cut → (R.debt machine.old.rows).hands_over ≡ true → (R.debt machine.new.rows).owes ≡ true → PutsNoBusy ends.old ends.new }
+    ensures owed { IsFalse seen.is_cut ⊎ (is_turn queue.old ends.old.lane ≡ true) → (R.debt machine.old.rows).hands_over ≡ true → (R.debt machine.new.rows).owes ≡ true → PutsNoBusy ends.old ends.new }
 {
     if machine.hands_over() {
         serve_front(alloc, machine, ends, ended, queue, seen)

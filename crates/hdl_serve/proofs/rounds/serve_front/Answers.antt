@@ -1,4 +1,6 @@
-use Rattle.std.proofs.Common.{[], true, false, refl}
+use Rattle.std.proofs.Common.{◌≡◌, ◌⊎◌, [], true, false, refl, sym, subst}
+use Rattle.std.specs.Prelude.{IsFalse}
+use Rattle.hdl_queue.specs.Waiting.{is_turn}
 use Rattle.hdl_workers.specs.declared.ends.LaneEnds.{LaneEnds}
 use Rattle.hdl_serve.specs.Rounds.{Passes}
 use Rattle.hdl_serve.proofs.Steps.{passes_first, passes_nothing, serves_going, serves_none, took_last, puts_nothing, puts_none, puts_later}
@@ -32,7 +34,10 @@ pub returns-in-Event-clause-served : goal.returns-in-Event-clause-served
 returns-in-Event-clause-served g c = serves_going c.args.ended.now _ _ c.args.ends.now c.is_ready.new.ends c.serve_copy.new.ends c.if-ended.false (c.is_ready.ensures.passes false) c.serve_copy.ensures.served
 
 pub returns-in-Event-clause-owed : goal.returns-in-Event-clause-owed
-returns-in-Event-clause-owed g c = λ sure owes. puts_later false false c.args.ends.now c.is_ready.new.ends c.serve_copy.new.ends (c.is_ready.ensures.passes false) (c.serve_copy.ensures.owed sure owes)
+returns-in-Event-clause-owed g c = λ sure owes.
+    let passes : Passes false false [] [] c.args.ends.now c.is_ready.new.ends = c.is_ready.ensures.passes false in
+    let surely = subst (λ lane. IsFalse c.args.seen.is_cut ⊎ (is_turn c.args.queue.now lane ≡ true)) (sym passes.lane) sure in
+    puts_later false false c.args.ends.now c.is_ready.new.ends c.serve_copy.new.ends passes (c.serve_copy.ensures.owed surely owes)
 
 pub returns-in-NoMemory-clause-served : goal.returns-in-NoMemory-clause-served
 returns-in-NoMemory-clause-served g c = serves_none c.args.ended.now c.args.ended.now _ c.args.ends.now c.is_ready.new.ends (c.is_ready.ensures.passes c.args.ended.now)
