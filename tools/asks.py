@@ -200,7 +200,9 @@ SERVERS = (
     ("it closes at once", [], 3, "hdl: the connection was closed"),
     ("it closes in the middle of an envelope", [DONE[:11]], 3, "hdl: the connection was closed"),
     ("it closes in the middle of a message", [DONE[:-1]], 3, "hdl: the connection was closed"),
-    ("no frame", [b"HTTP/1.1 400 Bad Request\r\n\r\n"], 3, "hdl: the server sent no frame: unknown protocol version"),
+    ("no frame", [b"\2\1\x80\0" + DONE[4:]], 3, "hdl: the server sent no frame: compressed, encrypted, or a piece past the message's end"),
+    ("no changes are taken", [wire.frame(reply(wire.DELETE, 5, wire.number(0)), 0, 1)], 1,
+     "hdl: 5 operation denied: a server with --read-only takes no changes: name the one that does by --server. No server creates or deletes a handle under 0.NA"),
     ("an answer to another request", [wire.frame(reply(wire.DELETE), 0, 2)], 3, "hdl: the server replied to another request"),
     ("octets behind a reply", [LONG], 3, "hdl: the server sent no reply"),
     ("a piece", [b"\2\1\x20\0" + DONE[4:]], 3, "hdl: the server sent no reply"),
@@ -210,7 +212,10 @@ SERVERS = (
     ("its challenge again", [OWN, wire.frame(OWN[20:], 1, 2)], 1, "hdl: 402 authentication needed: give --key INDEX:HANDLE, and its secret in HDL_SECRET"),
 )
 
-KEY_REFUSED = "hdl: an HS_SECKEY value is refused on the command line, which others on this machine can read: use `hdl batch`"
+KEY_REFUSED = "hdl: value %d: an HS_SECKEY value is refused on the command line, which others on this machine can read: use `hdl batch`"
+
+# Behind what is wrong with a value on the command line.
+FORM = ": write INDEX TYPE TTL PERMISSIONS FORMAT DATA, such as '1 URL 86400 1110 UTF8 https://example.org/'"
 
 # Of a server that can't be reached: its words, and what is said behind them. A broadcast address has no way for a connection.
 NOBODY = "nothing listens there: is a server running? Name another one by --server HOST:PORT, ask `systemctl status handled`, or start an example by `handled serve < examples/serve.tenants`"
@@ -225,13 +230,17 @@ UNREACHED = (
 
 # Words that are no request: arguments, standard input, and what is said.
 WORDS = (
-    (["resolve", "10/a", "--index", "0"], "", "hdl: an index isn't a number from 1 to 4294967295"),
-    (["create", "10/a", "1 URL 86400 111 UTF8 a"], "", "hdl: the permissions aren't four digits 0 or 1"),
-    (["create", "10/a", "0 URL 86400 1110 UTF8 a"], "", "hdl: the value's index is 0"),
-    (["create", "10/k", KEY_LINE], "", KEY_REFUSED),
-    (["add", "10/k", "1 URL 86400 1110 UTF8 a", KEY_LINE], "", KEY_REFUSED),
-    (["modify", "10/k", "OCTETS " + KEY.hex()], "", KEY_REFUSED),
-    (["create", "10/k", "300 HS_SECKEY HIDDEN 11 octets"], "", "hdl: the data is HIDDEN: write the data itself"),
+    (["resolve", "10/a", "--index", "0"], "", "hdl: '0': an index isn't a number from 1 to 4294967295"),
+    (["remove", "10/a", "1", "1,2"], "", "hdl: '1,2': an index isn't a number from 1 to 4294967295"),
+    (["create", "10/a", "1 URL 86400 111 UTF8 a"], "", "hdl: '1 URL 86400 111 UTF8 a': the permissions aren't four digits 0 or 1" + FORM),
+    (["create", "10/a", "0 URL 86400 1110 UTF8 a"], "", "hdl: '0 URL 86400 1110 UTF8 a': the value's index is 0" + FORM),
+    (["add", "10/a", "1 URL 86400 1110 UTF8 a", "URL\x1b[2J"], "", "hdl: 'URL\\u{1b}[2J': the index isn't a number" + FORM),
+    (["create", "10/k", KEY_LINE], "", KEY_REFUSED % 1),
+    (["add", "10/k", "1 URL 86400 1110 UTF8 a", KEY_LINE], "", KEY_REFUSED % 2),
+    (["modify", "10/k", "OCTETS " + KEY.hex()], "", KEY_REFUSED % 1),
+    (["create", "10/k", "300 hs_seckey 86400 111 UTF8 " + SECRET], "", "hdl: value 1: the permissions aren't four digits 0 or 1" + FORM),
+    (["modify", "10/k", "octets " + KEY.hex()], "", "hdl: value 1: the index isn't a number" + FORM),
+    (["create", "10/k", "300 HS_SECKEY HIDDEN 11 octets"], "", "hdl: value 1: the data is HIDDEN: write the data itself" + FORM),
     (["delete", "10/c", "--key", "10/c"], "", "hdl: a key isn't INDEX:HANDLE, such as 300:0.NA/10"),
     (["batch"], "CREATE\n", "hdl: line 1: unknown operation: write RESOLVE, CREATE, ADD, MODIFY, REMOVE, DELETE, LIST or AUTHENTICATE"),
     (["batch"], "MOVE 10/a\n", "hdl: line 1: unknown operation: write RESOLVE, CREATE, ADD, MODIFY, REMOVE, DELETE, LIST or AUTHENTICATE"),
@@ -528,6 +537,8 @@ def cases():
     """What is asked, what came, and the status and the words that should."""
     for name, sent, status, said in SERVERS:
         yield name, deleted(sent, []), status, said
+    done = deleted([b"HTTP/1.1 400 Bad Request\r\n\r\n"], [])
+    yield "another service", done, 3, "hdl: %s: what answers there is no handle server, but perhaps the port of `hdl proxy`, or another program: check --server" % done.args[-1]
     yield "an octet a second", asked(lambda listener: served_slowly(listener, DONE), ["delete", "10/c", "--key", "300:0.NA/10"]), 3, "hdl: no answer in time"
     for server, said in UNREACHED:
         yield "no connection to " + server, run(["resolve", "10/a", "--server", server]), 3, "hdl: %s: %s" % (server, said)

@@ -220,7 +220,7 @@ def unsent(port):
     yield "a key that is none", run(port, WHOLE, key="10/a") == (2, "", "hdl: a key isn't INDEX:HANDLE, such as 300:0.NA/10\n")
     yield "no secret", run(port, WHOLE, secret="") == (2, "", "hdl: the secret is missing: set HDL_SECRET, or write it on the first line of standard input, or, in a batch, on the line after AUTHENTICATE\n")
     done = subprocess.run([PROGRAM, "import", "--csv", "/none/file.csv", "--key", KEY], capture_output=True, check=False, text=True, env={**os.environ, "HDL_SECRET": SECRET})
-    yield "no file", (done.returncode, done.stdout, done.stderr) == (2, "", "hdl: the file can't be read: No such file or directory (os error 2)\n")
+    yield "no file", (done.returncode, done.stdout, done.stderr) == (2, "", "hdl: /none/file.csv: the file can't be read: No such file or directory (os error 2): check --csv\n")
     status, out, err = run(port, WHOLE)
     yield "no server", (status, out) == (3, "0 created, 0 there already, 0 failed\n") and bool(re.fullmatch(r"hdl: 127\.0\.0\.1:\d+: nothing listens there: .*; start again with the same file: .*\n", err))
     yield "a dry run", run(port, WHOLE, more=["--dry-run"], secret="") == (0, "4 could be created, 0 failed; nothing was sent\n", "")

@@ -7,6 +7,7 @@ use crate::telling::tell_fault;
 use crate::words::{Printout, code_name, push_reply, push_short_reply};
 use hdl_client::{ClientFault, Key, Reply, connect};
 use hdl_frame::Envelope;
+use hdl_lines::printed_octets;
 use hdl_msg::{OpCode, ReplyView, RequestBody, ResponseCode};
 use hdl_value::Wire;
 use std::alloc::{AllocError, Global};
@@ -39,6 +40,9 @@ pub struct Inquiry {
 pub enum AskFault {
     #[error("{0}")]
     Words(WordFault),
+    /// The value or index at this place is faulty.
+    #[error("{1}")]
+    Word(usize, WordFault),
     #[error("{0}")]
     Client(ClientFault),
     #[error("standard output can't be written")]
@@ -49,7 +53,7 @@ impl AskFault {
     /// The exit status: 2 for words, 3 where no answer came that can be read, 1 else.
     pub fn status(self) -> u8 {
         match self {
-            AskFault::Words(_) => 2,
+            AskFault::Words(_) | AskFault::Word(_, _) => 2,
             AskFault::Client(_) => 3,
             AskFault::Output => 1,
         }
@@ -89,20 +93,29 @@ fn handle_of(alloc: Global, question: &Inquiry) -> Result<String, AllocError> {
     String::from_str(alloc, handle)
 }
 
-fn body_of(alloc: Global, question: &Inquiry) -> Result<RequestBody, WordFault> {
+/// The values or indexes of a question, and its types.
+fn details_of(alloc: Global, question: &Inquiry) -> Result<Details, AskFault> {
     let mut details = Details::new(alloc);
-    for word in &question.words {
-        if takes_values(question.operation) {
-            details.push_word(alloc, word)?;
+    for (place, word) in question.words.iter().enumerate() {
+        let read = if takes_values(question.operation) {
+            details.push_word(alloc, word)
         } else {
-            details.push_index(word)?;
+            details.push_index(word)
+        };
+        if let Err(fault) = read {
+            return Err(AskFault::Word(place, fault));
         }
     }
     for kind in &question.types {
         details.push_type(alloc, kind)?;
     }
+    Ok(details)
+}
+
+fn body_of(alloc: Global, question: &Inquiry) -> Result<RequestBody, AskFault> {
+    let details = details_of(alloc, question)?;
     let handle = handle_of(alloc, question)?;
-    request_of(alloc, question.operation, &handle, details)
+    Ok(request_of(alloc, question.operation, &handle, details)?)
 }
 
 fn print_reply(
@@ -228,15 +241,53 @@ fn ask_with_key(rt: &HostRuntime, question: &Inquiry) -> Result<u8, AskFault> {
     }
 }
 
-/// Says on standard error why a question to this server has no answer.
-fn tell(rt: &HostRuntime, server: &str, fault: AskFault) {
-    let _ = match fault {
-        AskFault::Client(fault) => {
-            tell_fault(rt, server, fault);
-            eprintln!(rt)
-        }
-        other => eprintln!(rt; "hdl: {other}"),
+/// How a value is written.
+const VALUE_FORM: &str =
+    ": write INDEX TYPE TTL PERMISSIONS FORMAT DATA, such as '1 URL 86400 1110 UTF8 https://example.org/'";
+
+/// Whether a secret may stand in a word: in the line of a key, or in the digits of a value.
+fn may_have_secret(word: &str) -> bool {
+    word.as_bytes().windows(6).any(|part| part.eq_ignore_ascii_case(b"SECKEY")
+        || part.eq_ignore_ascii_case(b"OCTETS"))
+}
+
+/// The word at this place as it is shown. One in which a secret may stand is only counted.
+fn shown_word(alloc: Global, place: usize, word: &str) -> Result<String, AllocError> {
+    if may_have_secret(word) {
+        return format!(in alloc; "value {}", place.saturating_add(1));
+    }
+    let printed = printed_octets(alloc, word.as_bytes())?;
+    format!(in alloc; "'{printed}'")
+}
+
+/// Says on standard error what is wrong with the word at this place.
+fn tell_word(rt: &HostRuntime, words: &[String], place: usize, fault: WordFault) {
+    let word = match words.get(place) {
+        Some(word) => word.as_str(),
+        None => "",
     };
+    let way = match fault {
+        WordFault::Value(_) => VALUE_FORM,
+        _ => "",
+    };
+    let _ = match shown_word(rt.alloc(), place, word) {
+        Ok(shown) => eprintln!(rt; "hdl: {shown}: {fault}{way}"),
+        Err(_) => eprintln!(rt; "hdl: {fault}{way}"),
+    };
+}
+
+/// Says on standard error why a question has no answer.
+fn tell(rt: &HostRuntime, question: &Inquiry, fault: AskFault) {
+    match fault {
+        AskFault::Client(fault) => {
+            tell_fault(rt, &question.server, fault);
+            let _ = eprintln!(rt);
+        }
+        AskFault::Word(place, fault) => tell_word(rt, &question.words, place, fault),
+        other => {
+            let _ = eprintln!(rt; "hdl: {other}");
+        }
+    }
 }
 
 /// Asks, and prints the answer in words. Answers the exit status: 0 for code 1, 1 for another code, whose name is then on standard
@@ -245,7 +296,7 @@ pub fn run_question(rt: &HostRuntime, question: &Inquiry) -> u8 {
     match ask_with_key(rt, question) {
         Ok(status) => status,
         Err(fault) => {
-            tell(rt, &question.server, fault);
+            tell(rt, question, fault);
             fault.status()
         }
     }

@@ -1,6 +1,7 @@
 //! What is said where a server gave no reply.
 
 use hdl_client::{ClientFault, ConnectFault};
+use hdl_frame::FrameFault;
 
 /// What can be done where there is no connection.
 fn way_on(fault: ConnectFault) -> &'static str {
@@ -17,10 +18,14 @@ fn way_on(fault: ConnectFault) -> &'static str {
     }
 }
 
-/// Says on standard error, and ends no line, why a server gave no reply: where there is no connection with its address, and what can be done.
+/// Says on standard error, and ends no line, why a server gave no reply: with its address and what can be done, if there is no connection or what answers is no
+/// handle server.
 pub(crate) fn tell_fault(rt: &HostRuntime, server: &str, fault: ClientFault) {
     let _ = match fault {
         ClientFault::NoConnection(why) => eprint!(rt; "hdl: {server}: {why}{}", way_on(why)),
+        ClientFault::NoFrame(FrameFault::Version(_)) => eprint!(rt;
+            "hdl: {server}: what answers there is no handle server, but perhaps the port of `hdl proxy`, or another program: check --server"
+        ),
         _ => eprint!(rt; "hdl: {fault}"),
     };
 }

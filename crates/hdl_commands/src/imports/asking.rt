@@ -304,13 +304,14 @@ fn print_counts(rt: &HostRuntime, import: &Import, counts: &Counts) {
     };
 }
 
-/// Says on standard error why an import by this server stopped.
-fn tell(rt: &HostRuntime, server: &str, fault: &ImportFault) {
+/// Says on standard error why an import stopped.
+fn tell(rt: &HostRuntime, import: &Import, fault: &ImportFault) {
     let _ = match fault {
         ImportFault::Client(fault) => {
-            tell_fault(rt, server, *fault);
+            tell_fault(rt, &import.server, *fault);
             eprintln!(rt; "{AGAIN}")
         }
+        ImportFault::File(_) => eprintln!(rt; "hdl: {}: {fault}: check --csv", import.file),
         other => eprintln!(rt; "hdl: {other}"),
     };
 }
@@ -332,7 +333,7 @@ pub fn import_file(rt: &HostRuntime, import: &Import) -> u8 {
         print_counts(rt, import, &counts);
     }
     if let Err(fault) = ended {
-        tell(rt, &import.server, &fault);
+        tell(rt, import, &fault);
     }
     status
 }
