@@ -160,7 +160,7 @@ def exported(folder):
         yield "handles are created", write(ports, CREATED)
         before = answers(ports, both)
         busy = export(text(both, ports, OPENING), "--table", file)
-        yield "a file in use", (busy.returncode, busy.stdout, busy.stderr.split(b":")[:2]) == (4, b"", [b"table", b" in use"])
+        yield "a file in use", (busy.returncode, busy.stdout, busy.stderr.split(b":")[:2]) == (4, b"", [b"table", b" in use"]) and b"(handled copy)" in busy.stderr
     done = export(text(both, ports, OPENING), "--table", file)
     lines = done.stdout.decode().splitlines()
     rows = OPENING + [(handle, value) for handle, values in CREATED for value in values]

@@ -15,6 +15,8 @@ use std::fmt;
 pub enum TabledFault {
     Run(Fault),
     Table(TableFault),
+    /// The table's file is read, and another process has it open.
+    InUse,
     /// The table's file can't be opened, for this reason.
     Unopened(OpenReason),
     /// The table's file and its log don't belong together, or aren't whole.
@@ -38,6 +40,7 @@ impl TabledFault {
             TabledFault::Table(TableFault::Memory) => Fault::NoMemory.status(),
             TabledFault::Export(fault) => status_of(fault),
             TabledFault::Table(_)
+            | TabledFault::InUse
             | TabledFault::Unopened(_)
             | TabledFault::Pair(_)
             | TabledFault::Write(_)
@@ -52,6 +55,9 @@ impl fmt::Display for TabledFault {
         match self {
             TabledFault::Run(fault) => write!(f, "{fault}"),
             TabledFault::Table(fault) => write!(f, "{fault}"),
+            TabledFault::InUse => f.write_str(
+                "table: in use: another process has the file open; make a copy of it (handled copy) and name that, or end the process first",
+            ),
             TabledFault::Unopened(reason) => write!(f, "table: cannot open: {reason}"),
             TabledFault::Pair(fault) => write!(f, "table: {fault}: {PAIR_HELP}"),
             TabledFault::Export(fault) => write!(f, "{fault}"),

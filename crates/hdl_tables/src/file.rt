@@ -4,7 +4,7 @@ use crate::closing::Closing;
 use crate::fault::TabledFault;
 use crate::opening::{TablePath, open_served};
 use hdl_core::Owing;
-use hdl_lastingrows::Alarm;
+use hdl_lastingrows::{Alarm, TableFault};
 use hdl_sqlrows::load::Progress;
 use hdl_tenants::Tenants;
 use std::thread::Threads;
@@ -20,6 +20,14 @@ pub trait FileWork: Drop {
     fn run<T: Owing + Closing + Drop>(self, rt: &HostRuntime, table: T) -> Result<u8, TabledFault>;
 }
 
+/// What is said where a file is to be read that another process has open: a copy would do.
+fn as_read(fault: TabledFault) -> TabledFault {
+    match fault {
+        TabledFault::Table(TableFault::InUse) => TabledFault::InUse,
+        other => other,
+    }
+}
+
 /// Does this over the table in the file.
 pub fn over_file<R: Threads + Drop, A: Alarm + Progress + Drop, W: FileWork>(
     machine: R,
@@ -28,6 +36,6 @@ pub fn over_file<R: Threads + Drop, A: Alarm + Progress + Drop, W: FileWork>(
     alarm: A,
     work: W,
 ) -> Result<u8, TabledFault> {
-    let table = open_served(machine, rt, file, work.tenants(), alarm, false)?;
+    let table = open_served(machine, rt, file, work.tenants(), alarm, false).map_err(as_read)?;
     work.run(rt, table)
 }
