@@ -203,6 +203,8 @@ def departments():
         yield "check tells a port that is taken", status == 0 and "20: port" in printed and fault.startswith("check: 127.0.0.1:%d of 10 is taken now" % ports[0]) and fault.count("\n") == 1
         status, _, fault = ran(["check", "--listen", "127.0.0.2"], texts(("10", ports[0])))
         yield "another address has the port free", (status, fault) == (0, "")
+        status, printed, fault = ran(["check", "--listen", "203.0.113.77", "--listen", "127.0.0.2"], texts(("10", ports[0]), ("20", second)))
+        yield "check tells once that an address isn't this machine's", status == 1 and "20: port" in printed and fault.startswith("check: cannot listen on 203.0.113.77:%d: " % ports[0]) and fault.count("\n") == 1
         status, printed, fault = ran(["serve", "--turns", "1"], texts(("20", second), ("10", ports[0])))
         yield "one port that can't be had, and no publisher is served", status == 1 and "127.0.0.1:%d" % ports[0] in fault and not printed
 

@@ -1,6 +1,6 @@
 //! Checking a tenants text before it is served.
 
-use crate::ports::{say_taken, say_unservable};
+use crate::ports::{say_unavailable, say_unservable};
 use hdl_check::{Report, check};
 use hdl_programs::{Fault, put_all, tenants_of};
 use std::net::IpAddr;
@@ -32,6 +32,5 @@ pub fn check_ports(rt: &HostRuntime, text: &str, addresses: &[IpAddr]) -> Result
     if say_unservable(rt, &tenants) {
         return Ok(FAULTY);
     }
-    say_taken(rt, rt.alloc(), &tenants, addresses)?;
-    Ok(0)
+    Ok(say_unavailable(rt, rt.alloc(), &tenants, addresses)?)
 }

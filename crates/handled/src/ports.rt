@@ -83,28 +83,69 @@ fn try_port(rt: &HostRuntime, at: SocketAddr) -> io::Result<()> {
     Ok(())
 }
 
-/// Says on standard error which ports of the publishers can't be had at these addresses now.
-pub fn say_taken(
+/// What is said of a publisher's port that can't be had: if it is taken, that a start needs it free, or else what is said of it at a start.
+fn line_of(
+    alloc: Global,
+    at: SocketAddr,
+    name: &str,
+    kind: ErrorKind,
+) -> Result<String, AllocError> {
+    if kind == ErrorKind::AddrInUse {
+        return format!(in alloc;
+            "check: {at} of {name} is taken now, by a server that runs or by another program: a start needs it free"
+        );
+    }
+    // the last line of the fault is that of its status
+    let fault = format!(in alloc; "{}", HostFault::Listen(at, kind))?;
+    let line = fault.lines().next().unwrap_or("");
+    format!(in alloc; "check: {line}")
+}
+
+/// Whether no port can be had at an address because of this.
+fn is_of_address(kind: ErrorKind) -> bool {
+    matches!(kind, ErrorKind::AddrNotAvailable | ErrorKind::Unsupported)
+}
+
+/// Says on standard error which ports of the publishers can't be had at this address now; answers the exit status, as [`say_unavailable`] does.
+fn say_unavailable_at(
     rt: &HostRuntime,
     alloc: Global,
     tenants: &Tenants,
-    addresses: &[IpAddr],
-) -> Result<(), AllocError> {
+    address: IpAddr,
+) -> Result<u8, AllocError> {
+    let mut status = 0;
     for place in 0..tenants.publishers() {
         let Some((name, _, port)) = tenants.publisher(place) else {
             break;
         };
-        for address in addresses {
-            let at = SocketAddr::new(*address, port);
-            let line = match try_port(rt, at) {
-                Ok(()) => continue,
-                Err(e) if e.kind() == ErrorKind::AddrInUse => format!(in alloc;
-                    "check: {at} of {name} is taken now, by a server that runs or by another program: a start needs it free"
-                )?,
-                Err(e) => format!(in alloc; "check: {at} of {name} can't be had: {e}")?,
-            };
-            let _ = eprintln!(rt; "{line}");
+        let at = SocketAddr::new(address, port);
+        let kind = match try_port(rt, at) {
+            Ok(()) => continue,
+            Err(e) => e.kind(),
+        };
+        let line = line_of(alloc, at, name, kind)?;
+        let _ = eprintln!(rt; "{line}");
+        if kind != ErrorKind::AddrInUse {
+            status = HostFault::Listen(at, kind).status();
+        }
+        if is_of_address(kind) {
+            break;
         }
     }
-    Ok(())
+    Ok(status)
+}
+
+/// Says on standard error which ports of the publishers can't be had at these addresses now, once of an address at which none can. Answers the exit status: 0 if
+/// each can be had once it isn't taken, or else that of a start.
+pub fn say_unavailable(
+    rt: &HostRuntime,
+    alloc: Global,
+    tenants: &Tenants,
+    addresses: &[IpAddr],
+) -> Result<u8, AllocError> {
+    let mut status = 0;
+    for address in addresses {
+        status = say_unavailable_at(rt, alloc, tenants, *address)?.max(status);
+    }
+    Ok(status)
 }
