@@ -36,8 +36,6 @@ pub fn over_file<R: Threads + Drop, A: Alarm + Progress + Drop, W: FileWork>(
     alarm: A,
     work: W,
 ) -> Result<u8, TabledFault> {
-    match open_served(machine, rt, file, work.tenants(), alarm, false) {
-        Ok(table) => work.run(rt, table),
-        Err(fault) => Err(as_read(fault)),
-    }
+    let table = open_served(machine, rt, file, work.tenants(), alarm, false).map_err(as_read)?;
+    work.run(rt, table)
 }
