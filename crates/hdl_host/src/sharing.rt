@@ -116,17 +116,40 @@ fn load<R: Net<Stream = TcpStream> + Clock + Eprint + Drop, T: Owing + Drop>(
     keeper: &mut Keeper<R>,
 ) -> Result<(), HostFault> {
     let mut loading = keeper.load()?;
-    while keeper.load_part(&mut loading)? {
+    for _ in 0..u64::MAX {
+        if !keeper.load_part(&mut loading)? {
+            break;
+        }
         let_in_all(service, news)?;
     }
     Ok(())
 }
 
+/// What a thread beside the one that serves does.
+trait Keeping {
+    fn keep(self);
+}
+
+/// A keeper, and how it tells the thread that serves.
+#[derive(Drop)]
+struct TellingKeeper<R> {
+    keeper: Keeper<R>,
+    waking: Awakening,
+}
+
+impl<R: Net<Stream = TcpStream> + Clock + Eprint + Drop> Keeping for TellingKeeper<R> {
+    fn keep(self) {
+        let TellingKeeper { keeper, waking } = self;
+        keeper.keep(waking);
+    }
+}
+
 /// Starts the thread that keeps the server beside the others.
-fn start_keeper<
-    R: Net<Stream = TcpStream> + Threads + Clock + Eprint + Copy + Send + Drop + 'static,
->(rt: &R, keeper: Keeper<R>, waking: Awakening) -> Result<(), Fault> {
-    match thread::spawn(rt, move || keeper.keep(waking)) {
+fn start_keeper<R: Threads, K: Keeping + Send + Drop + 'static>(
+    rt: &R,
+    keeping: K,
+) -> Result<(), Fault> {
+    match thread::spawn(rt, move || keeping.keep()) {
         Ok(_) => Ok(()),
         Err(_) => Err(Fault::Device),
     }
@@ -164,7 +187,8 @@ fn share_and_serve<
     let mut service = resume_within(alloc, rows, limited, tenants)?;
     load(&mut service, &mut news, &mut keeper)?;
     let bell = or_device(ready.opened.sleep.bell())?;
-    start_keeper(rt, keeper, Awakening { bell, ending })?;
+    let waking = Awakening { bell, ending };
+    start_keeper(rt, TellingKeeper { keeper, waking })?;
     let service = SharedService {
         service,
         news,

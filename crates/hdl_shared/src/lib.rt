@@ -15,7 +15,10 @@
 //! ```rust
 //! // crates/hdl_host/src/sharing.rt
 //! let mut loading = keeper.load()?;
-//! while keeper.load_part(&mut loading)? {
+//! for _ in 0..u64::MAX {
+//!     if !keeper.load_part(&mut loading)? {
+//!         break;
+//!     }
 //!     let_in_all(service, news)?;
 //! }
 //! ```
