@@ -309,7 +309,7 @@ def standbys():
 
 
 def failures():
-    """A server that fails is told once, however often it is asked, and a name without an address at the start."""
+    """A server that fails is told once, however often it is asked, with the reason."""
     closed, other = Server(), Server(lambda _: b"no reply")
     close(closed)
     (port,) = servers.free_ports(1)
@@ -318,11 +318,11 @@ def failures():
         words += ["--server", "127.0.0.1:%d=%s" % (one.port, prefix)]
     process = subprocess.Popen(words, stdin=subprocess.DEVNULL, stdout=subprocess.PIPE, stderr=subprocess.PIPE, text=True)
     process.stdout.readline()
-    yield "a server that fails at first, and later", [ask(port, handle)[0] for handle in ("10/a", "20/a", "10/b", "20/b")] == [502] * 4 and not time.sleep(LEFT_OUT + 0.5) and ask(port, "10/c")[0] == 502
+    yield "a server that fails at first, and later", [ask(port, handle)[0] for handle in ("10/a", "20/a", "30/a", "10/b", "20/b", "30/b")] == [502] * 6 and not time.sleep(LEFT_OUT + 0.5) and ask(port, "10/c")[0] == 502
     time.sleep(0.2)
     process.terminate()
-    yield "is told once, with the reason, as is a name without an address", sorted(process.communicate()[1].splitlines()) == sorted([
-        "hdl: nowhere.invalid:2641: this name has no address: check how it is written, and the machine's DNS. Until it has one, this server fails",
+    yield "is told once, with the reason", sorted(process.communicate()[1].splitlines()) == sorted([
+        "hdl: nowhere.invalid:2641: this server fails: its name has no address%s" % CHECK,
         "hdl: 127.0.0.1:%d: this server fails: there is no connection, or it was closed%s" % (closed.port, CHECK),
         "hdl: 127.0.0.1:%d: this server fails: what it sends is no reply of a handle server%s" % (other.port, CHECK)])
 

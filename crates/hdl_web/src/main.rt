@@ -21,7 +21,6 @@ mod holders;
 mod lifetime;
 mod log;
 mod metrics;
-mod names;
 mod parting;
 mod patient;
 mod response;

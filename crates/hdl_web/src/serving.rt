@@ -4,7 +4,6 @@ use crate::board::Board;
 use crate::desk::Desk;
 use crate::event_loop::EventLoop;
 use crate::log::{Visit, write_lines};
-use crate::names::look_up;
 use crate::parting::Parting;
 use crate::patient::Patient;
 use crate::servers::{Clerk, Resolver};
@@ -19,7 +18,7 @@ use hyper::server::conn::http1::{Builder, Connection};
 use std::alloc::{AllocGlobal, Global};
 use std::hash::RandomState;
 use std::io::{self, Eprint, Write};
-use std::net::{Net, SocketAddr};
+use std::net::SocketAddr;
 use std::random::RandomSource;
 use std::sync::{Arc, Wait};
 use std::thread::{self, Threads};
@@ -168,16 +167,13 @@ where
     Ok(Some(visits))
 }
 
-/// Starts the thread that writes the lines about servers. It looks up their names first, since an answer may take long.
+/// Starts the thread that writes the lines about servers.
 fn start_notices<R>(rt: &R, board: &Arc<Board<R>>, come: Receiver<Notice>) -> io::Result<()>
 where
-    R: Wait + Threads + Clock + Net + Eprint + AllocGlobal + Copy + Send + Sync + Drop + 'static,
+    R: Wait + Threads + Clock + Eprint + AllocGlobal + Copy + Send + Sync + Drop + 'static,
 {
     let theirs = Arc::try_clone(board)?;
-    drop(thread::spawn(rt, move || {
-        look_up(&theirs.rt, &theirs.routes);
-        write_notices(&theirs, come);
-    })?);
+    drop(thread::spawn(rt, move || write_notices(&theirs, come))?);
     Ok(())
 }
 
@@ -201,7 +197,6 @@ where
     R: Wait
         + Threads
         + Clock
-        + Net
         + RandomSource
         + Eprint
         + AllocGlobal
