@@ -54,6 +54,8 @@ pub(crate) struct Accepted<'a> {
     sites: LinesBy<'a>,
     /// By handle, in canonical form.
     values: LinesBy<'a>,
+    /// The accepted lines of publishers, by publisher.
+    named_publishers: LinesBy<'a>,
     /// By publisher.
     faulty_publishers: LinesBy<'a>,
     /// By prefix, in canonical form.
@@ -68,6 +70,7 @@ impl<'a> Accepted<'a> {
             prefixes: LinesBy::new(alloc),
             sites: LinesBy::new(alloc),
             values: LinesBy::new(alloc),
+            named_publishers: LinesBy::new(alloc),
             faulty_publishers: LinesBy::new(alloc),
             faulty_prefixes: LinesBy::new(alloc),
         }
@@ -111,7 +114,16 @@ impl<'a> Accepted<'a> {
         }
     }
 
-    pub(crate) fn add(&mut self, kind: &LineKind<'_>, line: &'a str) -> Result<(), AllocError> {
+    /// Adds the accepted line of this kind with these fields.
+    pub(crate) fn add(
+        &mut self,
+        kind: &LineKind<'_>,
+        fields: &[&str],
+        line: &'a str,
+    ) -> Result<(), AllocError> {
+        if let (LineKind::Publisher, [_, name, ..]) = (kind, fields) {
+            self.named_publishers.add(name.as_bytes(), line)?;
+        }
         match kind {
             LineKind::Publisher => self.publishers.add(PUBLISHERS, line),
             LineKind::Prefix(prefix) => self.prefixes.add(prefix.as_bytes(), line),
@@ -140,9 +152,9 @@ impl<'a> Accepted<'a> {
         }
     }
 
-    /// Whether a line of this publisher stands before that is faulty.
+    /// Whether lines of this publisher stand before, and each is faulty.
     pub(crate) fn has_faulty_publisher(&self, name: &str) -> bool {
-        self.faulty_publishers.has(name.as_bytes())
+        self.faulty_publishers.has(name.as_bytes()) && !self.named_publishers.has(name.as_bytes())
     }
 
     /// Whether a line of this prefix stands before that is faulty.

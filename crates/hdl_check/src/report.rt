@@ -66,7 +66,7 @@ impl Found {
             }
             return accepted.note_faulty(kind, fields, line);
         }
-        accepted.add(kind, line)?;
+        accepted.add(kind, fields, line)?;
         self.rest.push_str(line)
     }
 
