@@ -332,6 +332,7 @@ def faulty_addresses():
         (["--server", "::1:2641"], 2, "error: --server ::1:2641: " + port),
         (["--server", ":2641=10"], 2, "error: --server :2641=10: " + port),
         (["--server", "h:1", "--standby", "h:handle=10"], 2, "error: --standby h:handle=10: " + port),
+        (["--server", "h:1", "--log", "/none/visits.log"], 1, "hdl: --log /none/visits.log: No such file or directory (os error 2): name a file that the proxy's user may write, in a folder that is there\n"),
         (["--server", "h:1", "--listen", "203.0.113.1:8080"], 1, "hdl: --listen 203.0.113.1:8080: Cannot assign requested address (os error 99): name an address of this machine, see `ip addr`\n"),
     ):
         done = subprocess.run([PROGRAM, *words], capture_output=True, text=True, check=False, timeout=60 * servers.SLOWER)

@@ -322,7 +322,7 @@ def failures():
     time.sleep(0.2)
     process.terminate()
     yield "is told once, with the reason", sorted(process.communicate()[1].splitlines()) == sorted([
-        "hdl: nowhere.invalid:2641: this server fails: there is no connection, or it was closed%s" % CHECK,
+        "hdl: nowhere.invalid:2641: this server fails: its name has no address%s" % CHECK,
         "hdl: 127.0.0.1:%d: this server fails: there is no connection, or it was closed%s" % (closed.port, CHECK),
         "hdl: 127.0.0.1:%d: this server fails: what it sends is no reply of a handle server%s" % (other.port, CHECK)])
 

@@ -1,6 +1,7 @@
 pub mod About
 pub mod Asking
 pub mod Batch
+pub mod Connecting
 pub mod Exchange
 pub mod Reply
 pub mod Challenge

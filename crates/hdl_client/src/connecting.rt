@@ -1,12 +1,13 @@
 //! Connections to a server.
 
-ghost use Rattle.std.specs.Prelude.{None};
+ghost use Rattle.std.specs.Prelude.{None, IfErr};
+ghost use Rattle.hdl_client.specs.Connecting.{IsUnconnected};
 
 use crate::fault::{ClientFault, ConnectFault};
 use crate::session::Session;
 use crate::transport::Transport;
 use std::io::{self, ErrorKind, Read, Write};
-use std::net::{TcpStream, ToSocketAddrs};
+use std::net::{HostAddrs, SocketAddr, TcpStream, ToSocketAddrs};
 use std::time::{Duration, Instant};
 
 /// How many seconds a connection, the sending of a request, and its whole answer may take each.
@@ -37,14 +38,16 @@ fn time_left(rt: &HostRuntime, since: Instant, limit: Duration) -> io::Result<Du
 }
 
 impl Connection {
-    fn new(rt: HostRuntime, stream: TcpStream) -> io::Result<Connection> {
-        stream.set_nodelay(true)?;
+    fn new(rt: HostRuntime, stream: TcpStream) -> Result<Connection, ConnectFault> {
+        let (Ok(()), Ok(since)) = (stream.set_nodelay(true), Instant::now(&rt)) else {
+            return Err(ConnectFault::Failed);
+        };
         Ok(Connection {
             rt,
             stream,
             limit: Duration::from_secs(PATIENCE),
             is_patient: true,
-            since: Instant::now(&rt)?,
+            since,
             has_read: false,
         })
     }
@@ -102,11 +105,14 @@ impl Transport for Connection {
     }
 }
 
-/// What a name's fault is.
-fn name_fault(kind: ErrorKind) -> ConnectFault {
+/// Why a text gave no addresses.
+fn name_fault(kind: ErrorKind) -> ClientFault
+    ensures { IsUnconnected result }
+{
     match kind {
-        ErrorKind::InvalidInput => ConnectFault::NotHostPort,
-        _ => ConnectFault::UnknownName,
+        ErrorKind::InvalidInput => ClientFault::NoConnection(ConnectFault::NotHostPort),
+        ErrorKind::OutOfMemory => ClientFault::Memory,
+        _ => ClientFault::NoConnection(ConnectFault::UnknownName),
     }
 }
 
@@ -120,47 +126,69 @@ fn address_fault(kind: ErrorKind) -> ConnectFault {
     }
 }
 
-/// A stream to the first of a server's addresses that answers within ten seconds. The fault is that of the last one.
-fn stream_to(rt: &HostRuntime, server: &str) -> Result<TcpStream, ConnectFault> {
-    let addresses = match server.to_socket_addrs(rt) {
-        Ok(addresses) => addresses,
-        Err(error) => return Err(name_fault(error.kind())),
-    };
-    let patience = Duration::from_secs(PATIENCE);
-    let mut last = ConnectFault::UnknownName;
-    for address in addresses {
-        match TcpStream::connect_timeout(rt, &address, patience) {
-            Ok(stream) => return Ok(stream),
-            Err(error) => last = address_fault(error.kind()),
-        }
+/// The addresses of `HOST:PORT`.
+fn addresses_of(rt: &HostRuntime, server: &str) -> Result<HostAddrs, ClientFault>
+    ensures unconnected { IfErr result IsUnconnected }
+{
+    match server.to_socket_addrs(rt) {
+        Ok(addresses) => Ok(addresses),
+        Err(error) => Err(name_fault(error.kind())),
     }
-    Err(last)
 }
 
-/// Connects to `HOST:PORT`, by the first of its addresses that answers within ten seconds.
-pub fn connect(rt: &HostRuntime, server: &str) -> Result<Session<Connection>, ClientFault> {
-    let stream = stream_to(rt, server)?;
-    let connection = Connection::new(*rt, stream)?;
-    Ok(Session::new(rt.alloc(), connection))
+/// A stream to this address, if it answers within the time. Without time there is none.
+fn stream_to(
+    rt: &HostRuntime,
+    address: &SocketAddr,
+    time: io::Result<Duration>,
+) -> Result<TcpStream, ConnectFault> {
+    let connected = match time {
+        Ok(time) => TcpStream::connect_timeout(rt, address, time),
+        Err(error) => Err(error),
+    };
+    match connected {
+        Ok(stream) => Ok(stream),
+        Err(error) => Err(address_fault(error.kind())),
+    }
+}
+
+/// Connects to `HOST:PORT`, by the first of its addresses that answers within ten seconds. The fault says why there is no connection: that of the address
+/// that was tried last, or why there is none.
+pub fn connect(rt: &HostRuntime, server: &str) -> Result<Session<Connection>, ClientFault>
+    ensures unconnected { IfErr result IsUnconnected }
+{
+    let mut last = ConnectFault::UnknownName;
+    for address in addresses_of(rt, server)? {
+        match stream_to(rt, &address, Ok(Duration::from_secs(PATIENCE))) {
+            Ok(stream) => return Ok(Session::new(rt.alloc(), Connection::new(*rt, stream)?)),
+            Err(fault) => last = fault,
+        }
+    }
+    Err(ClientFault::NoConnection(last))
 }
 
 /// Connects to `HOST:PORT` within a time that began then, which is that of the first request too: it has to be answered whole before the time is over. Each
-/// later request has the same time, for being sent and for its whole answer together.
+/// later request has the same time, for being sent and for its whole answer together. The fault is as [`connect`] tells it.
 pub fn connect_within(
     rt: &HostRuntime,
     server: &str,
     since: Instant,
     limit: Duration,
-) -> Result<Session<Connection>, ClientFault> {
-    for address in server.to_socket_addrs(rt)? {
-        let time = time_left(rt, since, limit)?;
-        if let Ok(stream) = TcpStream::connect_timeout(rt, &address, time) {
-            let mut connection = Connection::new(*rt, stream)?;
-            connection.limit = limit;
-            connection.is_patient = false;
-            connection.since = since;
-            return Ok(Session::new(rt.alloc(), connection));
+) -> Result<Session<Connection>, ClientFault>
+    ensures unconnected { IfErr result IsUnconnected }
+{
+    let mut last = ConnectFault::UnknownName;
+    for address in addresses_of(rt, server)? {
+        match stream_to(rt, &address, time_left(rt, since, limit)) {
+            Ok(stream) => {
+                let mut connection = Connection::new(*rt, stream)?;
+                connection.limit = limit;
+                connection.is_patient = false;
+                connection.since = since;
+                return Ok(Session::new(rt.alloc(), connection));
+            }
+            Err(fault) => last = fault,
         }
     }
-    Err(ClientFault::Connection)
+    Err(ClientFault::NoConnection(last))
 }

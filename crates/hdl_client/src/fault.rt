@@ -1,7 +1,7 @@
 //! Why a request has no reply.
 
 ghost use Rattle.std.specs.Prelude.{◌≡◌, ◌≢◌};
-ghost use Rattle.hdl_client.specs.declared.fault.ClientFault.TheVariants.{Memory, TooLong};
+ghost use Rattle.hdl_client.specs.declared.fault.ClientFault.TheVariants.{Memory, NoConnection, TooLong};
 
 use hdl_frame::FrameFault;
 use hdl_limits::MESSAGE_MAX;
@@ -65,7 +65,7 @@ pub enum ClientFault {
 }
 
 impl From<ConnectFault> for ClientFault {
-    ghost from_gives = { λ _ e. e ≢ TooLong };
+    ghost from_gives = { λ fault e. e ≡ NoConnection fault };
 
     fn from(fault: ConnectFault) -> ClientFault {
         ClientFault::NoConnection(fault)

@@ -208,8 +208,8 @@ fn is_address_fit(rt: &HostRuntime, words: &ProxyWords) -> bool {
     }
 }
 
-/// The log of visits, if there is one.
-fn lines_to(rt: &HostRuntime, words: &ProxyWords) -> io::Result<Option<Log>> {
+/// The log of visits, if there is one. A file that can't be written is reported.
+fn lines_to(rt: &HostRuntime, words: &ProxyWords) -> Result<Option<Log>, ExitCode> {
     let Some(path) = &words.log else {
         return Ok(None);
     };
@@ -218,7 +218,15 @@ fn lines_to(rt: &HostRuntime, words: &ProxyWords) -> io::Result<Option<Log>> {
     }
     let mut how = OpenOptions::new();
     how.append(true).create(true);
-    Ok(Some(Log::File(how.open(rt, path.as_str())?)))
+    match how.open(rt, path.as_str()) {
+        Ok(file) => Ok(Some(Log::File(file))),
+        Err(fault) => {
+            let _ = eprintln!(rt;
+                "hdl: --log {path}: {fault}: name a file that the proxy's user may write, in a folder that is there"
+            );
+            Err(ExitCode::from(1))
+        }
+    }
 }
 
 /// Adds what listens at the address that this word names.
@@ -281,10 +289,7 @@ fn main(rt: HostRuntime) -> ExitCode {
     };
     let log = match lines_to(&rt, &words) {
         Ok(log) => log,
-        Err(fault) => {
-            let _ = eprintln!(rt; "hdl: --log: {fault}");
-            return ExitCode::from(1);
-        }
+        Err(status) => return status,
     };
     let Some(listening) = listening(&rt, &words) else {
         return ExitCode::from(1);

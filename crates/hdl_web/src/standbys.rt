@@ -2,7 +2,7 @@
 
 use crate::board::Board;
 use crossbeam_channel::{Receiver, Sender};
-use hdl_client::ClientFault;
+use hdl_client::{ClientFault, ConnectFault};
 use std::fmt;
 use std::io::Eprint;
 use std::sync::Wait;
@@ -26,7 +26,10 @@ enum News {
 /// Why a server fails, in few words.
 fn reason(fault: ClientFault) -> &'static str {
     match fault {
-        ClientFault::TimedOut => "no whole answer within --timeout",
+        ClientFault::NoConnection(ConnectFault::UnknownName) => "its name has no address",
+        ClientFault::TimedOut | ClientFault::NoConnection(ConnectFault::Silent) => {
+            "no whole answer within --timeout"
+        }
         ClientFault::NoConnection(_) | ClientFault::Connection | ClientFault::Closed => {
             "there is no connection, or it was closed"
         }
