@@ -142,6 +142,15 @@ SITES = (
     (["--read", SITE_OTHER.hex()], SITE_OTHER_SAID),
 )
 
+# What is said where no answer comes that can be read, with SERVER in the place of the server's address.
+SO = ": check --server: no handle server answers so"
+OTHER_HANDLE, OTHER_REQUEST = "hdl: SERVER: the server replied about another handle%s\n" % SO, "hdl: SERVER: the server replied to another request%s\n" % SO
+NO_REPLY = "hdl: SERVER: the server sent no reply: check --server; a port whose line ends with handle-net needs --handle-net"
+CLOSED = "hdl: SERVER: the connection was closed before an answer came: check --server; a server with --proxied answers only through its proxy"
+LATE = "hdl: SERVER: no answer in time: check --server; a handle server lets a client wait while others have all its connections"
+# Behind that, if a change was asked for.
+MAYBE = "; the change may have been made: resolve the handle"
+
 # What a server answers to a question for its site information: code and octets; and what is shown.
 SITE_ASKED = bytes.fromhex("02010000" "00000000" "00000001" "00000000" "00000021"
                            "00000002" "00000000" "00000000" "ffff" "00" "00" "00000000" "00000005" "00000001" "2f" "00000000")
@@ -152,13 +161,12 @@ SITE_ANSWERS = (
     ("other site information", reply(2, 1, SITE_OTHER), (0, SITE_OTHER_SAID, "")),
     ("site information that is no site", reply(2, 1, SITE[:-1]), (1, "", "hdl: the site information is no data of an HS_SITE value: %s\n" % SITE[:-1].hex())),
     ("no site information", reply(2, 5, wire.number(0)), (1, "", NO_SITE)),
-    ("a reply to a deletion", reply(wire.DELETE), (3, "", "hdl: the server replied to another request\n")),
-    ("no reply", b"\0" * 28, (3, "", "hdl: the server sent no reply\n")),
+    ("a reply to a deletion", reply(wire.DELETE), (3, "", OTHER_REQUEST)),
+    ("no reply", b"\0" * 28, (3, "", NO_REPLY + "\n")),
 )
 
 # Of a reply about something else: its name, its octets, what is asked, and what is said on standard error. Nothing of it is shown.
 PLAIN = wire.value(1, b"URL", b"https://other.example/", 0x0E, 86400)
-OTHER_HANDLE, OTHER_REQUEST = "hdl: the server replied about another handle\n", "hdl: the server replied to another request\n"
 CREATE = ["create", "10/a", "1 URL 86400 1110 UTF8 a"]
 OTHERS = (
     ("another handle's values", wire.values_reply(b"9/other", PLAIN), ["resolve", "10/a"], OTHER_HANDLE),
@@ -169,8 +177,8 @@ OTHERS = (
     ("a referral to the service of another prefix", reply(wire.RESOLVE, 302, wire.reference(b"0.NA/9", 0)), ["resolve", "10/a"], OTHER_HANDLE),
     ("values in the place of a list", wire.values_reply(b"0.NA/10", PLAIN), ["list", "10"], OTHER_REQUEST),
     ("a list in the place of values", reply(wire.LIST, body=wire.listed([wire.string(b"10/a")])), ["resolve", "10/a"], OTHER_REQUEST),
-    ("another write that was done", reply(wire.DELETE), CREATE, OTHER_REQUEST),
-    ("no operation that was done", reply(999, body=wire.number(0)), CREATE, OTHER_REQUEST),
+    ("another write that was done", reply(wire.DELETE), CREATE, OTHER_REQUEST[:-1] + MAYBE + "\n"),
+    ("no operation that was done", reply(999, body=wire.number(0)), CREATE, OTHER_REQUEST[:-1] + MAYBE + "\n"),
 )
 # The same behind a challenge, and in a batch.
 RESOLVE = wire.resolution(b"10/a")
@@ -197,18 +205,18 @@ SERVERS = (
     ("it is done", [DONE], 0, ""),
     ("another code", [wire.frame(reply(wire.DELETE, 302, wire.reference(b"0.NA/10", 0)), 0, 1)], 1, "hdl: 302 service referral: this port doesn't serve the prefix: name its publisher's port by --server"),
     ("busy", [wire.frame(wire.short_reply(3), 0, 1)], 1, "hdl: 3 server busy: nothing was done: try again; if it stays so, the server's /health says why"),
-    ("it closes at once", [], 3, "hdl: the connection was closed"),
-    ("it closes in the middle of an envelope", [DONE[:11]], 3, "hdl: the connection was closed"),
-    ("it closes in the middle of a message", [DONE[:-1]], 3, "hdl: the connection was closed"),
-    ("no frame", [b"\2\1\x80\0" + DONE[4:]], 3, "hdl: the server sent no frame: compressed, encrypted, or a piece past the message's end"),
+    ("it closes at once", [], 3, CLOSED + MAYBE),
+    ("it closes in the middle of an envelope", [DONE[:11]], 3, CLOSED + MAYBE),
+    ("it closes in the middle of a message", [DONE[:-1]], 3, CLOSED + MAYBE),
+    ("no frame", [b"\2\1\x80\0" + DONE[4:]], 3, "hdl: SERVER: the server sent no frame: compressed, encrypted, or a piece past the message's end" + SO + MAYBE),
     ("no changes are taken", [wire.frame(reply(wire.DELETE, 5, wire.number(0)), 0, 1)], 1,
      "hdl: 5 operation denied: a server with --read-only takes no changes: name the one that does by --server. No server creates or deletes a handle under 0.NA"),
-    ("an answer to another request", [wire.frame(reply(wire.DELETE), 0, 2)], 3, "hdl: the server replied to another request"),
-    ("octets behind a reply", [LONG], 3, "hdl: the server sent no reply"),
-    ("a piece", [b"\2\1\x20\0" + DONE[4:]], 3, "hdl: the server sent no reply"),
-    ("a challenge of another request", [wire.frame(wire.challenge(DELETE_20), 1, 1)], 3, "hdl: the server challenged another request"),
+    ("an answer to another request", [wire.frame(reply(wire.DELETE), 0, 2)], 3, OTHER_REQUEST[:-1] + MAYBE),
+    ("octets behind a reply", [LONG], 3, NO_REPLY + MAYBE),
+    ("a piece", [b"\2\1\x20\0" + DONE[4:]], 3, NO_REPLY + MAYBE),
+    ("a challenge of another request", [wire.frame(wire.challenge(DELETE_20), 1, 1)], 3, "hdl: SERVER: the server challenged another request" + SO + MAYBE),
     ("a wrong key", [OWN, wire.frame(reply(wire.DELETE, 403, wire.number(0)), 1, 2)], 1, "hdl: 403 authentication failed: the secret isn't that of the key: check HDL_SECRET"),
-    ("it closes behind its challenge", [OWN], 3, "hdl: the connection was closed"),
+    ("it closes behind its challenge", [OWN], 3, CLOSED + MAYBE),
     ("its challenge again", [OWN, wire.frame(OWN[20:], 1, 2)], 1, "hdl: 402 authentication needed: give --key INDEX:HANDLE, and its secret in HDL_SECRET"),
 )
 
@@ -224,7 +232,7 @@ UNREACHED = (
     ("127.0.0.1:1", NOBODY),
     ("127.0.0.1", NO_PORT),
     ("127.0.0.1:99999", NO_PORT),
-    ("nowhere.invalid:2641", "this name has no address: check --server"),
+    ("nowhere.invalid:2641", "this name has no address: check the name in --server"),
     ("255.255.255.255:2641", "the network is unreachable: check --server, and the network between"),
 )
 
@@ -251,7 +259,8 @@ WORDS = (
     (["batch"], "REMOVE 1,x:10/a\n", "hdl: line 1: an index isn't a number from 1 to 4294967295"),
     (["batch"], "AUTHENTICATE SECKEY:0.NA/10\n%s\n" % SECRET, "hdl: line 2: a key isn't INDEX:HANDLE, such as 300:0.NA/10"),
     (["batch"], "AUTHENTICATE SECKEY:300:0.NA/10\n", "hdl: line 1: the secret is missing: set HDL_SECRET, or write it on the first line of standard input, or, in a batch, on the line after AUTHENTICATE"),
-    (["tenants"], "value 10/a 1 URL 86400 1110 HIDDEN 3 octets\n", "hdl: line 1: the data is HIDDEN: write the data itself"),
+    (["tenants"], "value 10/a 1 URL 86400 1110 HIDDEN 3 octets\nprefix 10 acme\nvalue 10/a 2 URL x 1110 UTF8 a\n",
+     "hdl: line 1: the data is HIDDEN: write the data itself\nhdl: line 3: the TTL isn't a number\nhdl: nothing was printed: correct the lines, and start no server with the empty text"),
     (["init", "10", "10"], "", "hdl: prefix 2 is given twice: name each prefix once; capital and small letters are the same"),
     (["init", "10/a"], "", "hdl: prefix 1 isn't a naming authority: write one such as 10 or 10.5072, without a slash, and not 0.NA"),
     (["init", *map(str, range(33))], "", "hdl: more than 32 prefixes: a server has 64 lanes, and each publisher needs two; make a text for each of several servers"),
@@ -382,6 +391,8 @@ prefix 10.ABC acme
 prefix 30 nobody
 prefix 10 acme 9
 value 10/a 1 URL 86400 1110 UTF8 http://a.example
+value 10/a 2 URL 86400 1110 UTF8 http://a.example
+value 10/a of no kind
 value 40/a 00
 value 10a 00
 value 10/a 0
@@ -408,17 +419,18 @@ tenants: line 9: prefix given twice: this publisher has it already
 tenants: line 10: a prefix is a naming authority in lower case, such as 10 or 10.5072, without a slash, and not 0.na
 tenants: line 11: this publisher has no line yet: write its line `publisher ..` before its prefixes
 tenants: line 12: the word after the publisher is 2 for SHA-1 or 3 for SHA-256
-tenants: line 13: write: value HANDLE HEX, with single spaces; hdl tenants makes such lines of values in words
-tenants: line 14: the handle's prefix has no line yet: write its line `prefix ..` before its values
-tenants: line 15: the name has no slash
-tenants: line 16: HEX is an even number of hexadecimal digits; hdl tenants makes them of a value in words
-tenants: line 17: the value is cut short
-tenants: line 18: a line begins with `publisher`, `prefix`, `site` or `value` and a space, or with `#`, or is empty
-tenants: line 19: the word after the port is handle-net: the layout of values that, to our knowledge, Handle.Net software has
-tenants: line 22: site information given twice: this publisher has it already
-tenants: line 23: no line above gives this publisher `handle-net`: write its line `publisher .. handle-net` before this one
-tenants: line 24: HEX is an even number of hexadecimal digits; hdl site makes them of an address
-tenants: line 25: write: site NAME HEX, with single spaces; hdl site makes such a line of an address
+tenants: line 13: the value is in words, and perhaps others below: `hdl tenants < WORDS > TEXT` makes the text of them
+tenants: line 15: write: value HANDLE HEX, with single spaces; hdl tenants makes such lines of values in words
+tenants: line 16: the handle's prefix has no line yet: write its line `prefix ..` before its values
+tenants: line 17: the name has no slash
+tenants: line 18: HEX is an even number of hexadecimal digits; hdl tenants makes them of a value in words
+tenants: line 19: the value is cut short
+tenants: line 20: a line begins with `publisher`, `prefix`, `site` or `value` and a space, or with `#`, or is empty
+tenants: line 21: the word after the port is handle-net: the layout of values that, to our knowledge, Handle.Net software has
+tenants: line 24: site information given twice: this publisher has it already
+tenants: line 25: no line above gives this publisher `handle-net`: write its line `publisher .. handle-net` before this one
+tenants: line 26: HEX is an even number of hexadecimal digits; hdl site makes them of an address
+tenants: line 27: write: site NAME HEX, with single spaces; hdl site makes such a line of an address
 """
 TEXT_HAS = """\
 acme: port 2641, 7 lanes for connections; prefixes 10
@@ -432,9 +444,9 @@ SITE_HAS = "net: port %d (handle-net), 1 lanes for connections, 2 octets of site
 def net():
     """Values by the layout of the Handle.Net software: what is read and sent, and a service for a text of `hdl init --handle-net`."""
     came = wire.frame(wire.values_reply(b"10/a", NET_URL), 0, 1)
-    for words, wanted in ((["--handle-net"], (0, NET_SAID, "")), ([], (3, "", "hdl: the server sent no reply\n"))):
+    for words, wanted in ((["--handle-net"], (0, NET_SAID, "")), ([], (3, "", NO_REPLY + "\n"))):
         done = asked(lambda listener: served(listener, [came], []), ["resolve", "10/a", *words])
-        yield " ".join(["a value of Handle.Net", *words]), (done.returncode, done.stdout, done.stderr) == wanted
+        yield " ".join(["a value of Handle.Net", *words]), (done.returncode, done.stdout, done.stderr) == (*wanted[:2], by(done, wanted[2]))
     for words, text in NET_WRITES:
         sent = []
         done = asked(lambda listener: served(listener, [wire.frame(reply(wire.CREATE), 0, 1)], sent), words, text)
@@ -474,7 +486,7 @@ def sites():
         for more in ([], ["--handle-net"]):
             came = []
             done = asked(lambda listener: served(listener, [wire.frame(message, 0, 1)], came), ["site", *more], option="--of")
-            yield "hdl site --of: " + name, (done.returncode, done.stdout, done.stderr) == wanted and came == [SITE_ASKED]
+            yield "hdl site --of: " + name, (done.returncode, done.stdout, done.stderr) == (*wanted[:2], by(done, wanted[2])) and came == [SITE_ASKED]
     for digits, said in ((SITE.hex(), SITE_SAID), ("0g", ";; no hexadecimal digits\n"), ("00", ";; no data of an HS_SITE value\n")):
         yield "hdl explain of a line of site information", run(["explain"], "site acme %s\n" % digits).stdout == "site acme\n" + said
 
@@ -497,6 +509,11 @@ def checks():
         yield "handled check: " + name, (done.returncode, done.stdout, done.stderr) == wanted
 
 
+def by(done, said):
+    """What is said, with the server that the last argument names in the place of SERVER."""
+    return said.replace("SERVER", done.args[-1])
+
+
 def exchanges():
     """Each whole exchange: its name, and whether just these octets were sent and all went well."""
     for name, sent, wanted in WHOLE:
@@ -508,11 +525,11 @@ def exchanges():
         yield name, (done.returncode, done.stdout + done.stderr) == (0, said)
     for name, message, words, said in OTHERS:
         done = asked(lambda listener: served(listener, [wire.frame(message, 0, 1)], []), words)
-        yield name, (done.returncode, done.stdout, done.stderr) == (3, "", said)
+        yield name, (done.returncode, done.stdout, done.stderr) == (3, "", by(done, said))
     done = asked(lambda listener: served(listener, OTHER_BEHIND, []), ["resolve", "10/a", "--key", "300:0.NA/10"])
-    yield "another handle's values behind a challenge", (done.returncode, done.stdout, done.stderr) == (3, "", OTHER_HANDLE)
+    yield "another handle's values behind a challenge", (done.returncode, done.stdout, done.stderr) == (3, "", by(done, OTHER_HANDLE))
     done = asked(lambda listener: served(listener, [wire.frame(wire.values_reply(b"9/other", PLAIN), 0, 1)], []), ["batch"], "RESOLVE 10/a\n")
-    yield "another handle's values in a batch", (done.returncode, done.stdout, done.stderr) == (3, "0 succeeded, 0 failed\n", OTHER_HANDLE[:-1] + "; 1 without an outcome\n")
+    yield "another handle's values in a batch", (done.returncode, done.stdout, done.stderr) == (3, "0 succeeded, 0 failed\n", by(done, OTHER_HANDLE[:-1] + "; 1 without an outcome\n"))
     came = []
     done = asked(lambda listener: served(listener, [KEY_DONE], came), ["batch"], KEY_BATCH)
     yield "a key by a batch", done.returncode == 0 and came == [KEY_ASKED] and SECRET not in done.stdout + done.stderr
@@ -536,10 +553,12 @@ def exchanges():
 def cases():
     """What is asked, what came, and the status and the words that should."""
     for name, sent, status, said in SERVERS:
-        yield name, deleted(sent, []), status, said
+        done = deleted(sent, [])
+        yield name, done, status, by(done, said)
     done = deleted([b"HTTP/1.1 400 Bad Request\r\n\r\n"], [])
-    yield "another service", done, 3, "hdl: %s: what answers there is no handle server, but perhaps the port of `hdl proxy`, or another program: check --server" % done.args[-1]
-    yield "an octet a second", asked(lambda listener: served_slowly(listener, DONE), ["delete", "10/c", "--key", "300:0.NA/10"]), 3, "hdl: no answer in time"
+    yield "another service", done, 3, by(done, "hdl: SERVER: what answers there is no handle server, but perhaps the port of `hdl proxy`, or another program: check --server" + MAYBE)
+    done = asked(lambda listener: served_slowly(listener, DONE), ["delete", "10/c", "--key", "300:0.NA/10"])
+    yield "an octet a second", done, 3, by(done, LATE + MAYBE)
     for server, said in UNREACHED:
         yield "no connection to " + server, run(["resolve", "10/a", "--server", server]), 3, "hdl: %s: %s" % (server, said)
     yield "no connection for a batch", run(["batch", "--server", "127.0.0.1:1"], "DELETE 10/a\n"), 3, "hdl: 127.0.0.1:1: %s; 1 without an outcome" % NOBODY

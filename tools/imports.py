@@ -170,8 +170,9 @@ FAULTS = (
     (["10/f22,%d,URL,a,1,1110" % index for index in range(1, 257)], 0, MANY_VALUES),
     (["10/f23,%d,URL,%s,1,1110" % (index, "x" * 30000) for index in (1, 2, 3)], 0, "the request has more than 65536 octets"),
     # what the service says
-    (["20/f,1,URL,https://example.org/,1,1110"], 0, "302 service referral"),
-    (["0.NA/10.5,1,URL,https://example.org/,1,1110"], 0, "5 operation denied"),
+    (["20/f,1,URL,https://example.org/,1,1110"], 0, "302 service referral: this port doesn't serve the prefix: name its publisher's port by --server"),
+    (["0.NA/10.5,1,URL,https://example.org/,1,1110"], 0,
+     "5 operation denied: a server with --read-only takes no changes: name the one that does by --server. No server creates or deletes a handle under 0.NA"),
 )
 
 
@@ -233,14 +234,54 @@ REFUSED = "hdl: the server refuses the key: check --key and its secret; later ro
 
 
 def keys(port):
-    """A key that the service doesn't take ends the import behind its first part."""
+    """A key that the service doesn't take ends the import behind its first handle."""
     lines = ["handle,type,data,ttl"] + ["10/key%d,URL,a,1" % number for number in range(1500)]
-    for name, words, code in (("a wrong secret", {"secret": "wrong"}, "403 authentication failed"), ("no such key", {"key": "7:0.NA/10"}, "400 not authorized")):
+    for name, words, code in (
+        ("a wrong secret", {"secret": "wrong"}, "403 authentication failed: the secret isn't that of the key: check HDL_SECRET"),
+        ("no such key", {"key": "7:0.NA/10"}, "400 not authorized: the key of --key is no administrator there"),
+    ):
         status, out, err = run(port, "\n".join(lines).encode(), **words)
         told = out.splitlines()
-        count = 1000 if code.startswith("403") else 1500
+        count = 1 if code.startswith("403") else 1500
         good = told[0] == "line 2: 10/key0: " + code and told[-1] == "0 created, 0 there already, %d failed" % count and len(told) == count + 1
-        yield name, good and (status, err) == (1, REFUSED if count == 1000 else "")
+        yield name, good and (status, err) == (1, REFUSED if count == 1 else "")
+
+
+READ_ONLY = "hdl: the server takes no changes (--read-only): name the one that does by --server; later %s were not tried\n"
+DENIED = "5 operation denied: %sname the one that does by --server%s\n"
+
+
+def read_only(port):
+    """A server that takes no changes ends an import, an update and a replacement behind the first change."""
+    rows = b"handle,type,data,ttl\n" + b"".join(b"10/denied%d,URL,a,1\n" % number for number in range(1500))
+    denied = DENIED % ("a server with --read-only takes no changes: ", ". No server creates or deletes a handle under 0.NA")
+    yield "an import", run(port, rows) == (1, "line 2: 10/denied0: " + denied + "0 created, 0 there already, 1 failed\n", READ_ONLY % "rows")
+    denied = DENIED % ("this server takes no changes (--read-only): ", "")
+    rows = b"handle,type,data,ttl\n10/same,URL,%s1,1\n10/one,URL,b,1\n10/two,URL,b,1\n" % OLD.encode()
+    yield "an update", update(port, rows) == (1, "line 3: 10/one: " + denied + "0 created, 0 changed, 1 there already, 1 failed\n", READ_ONLY % "rows")
+    status, out, err = hdl(port, "replace", "10", OLD, NEW)
+    yield "a replacement", (status, out, err) == (1, "10/one: 5 operation denied\n0 changed, 0 have no such URL, 0 failed\n", READ_ONLY % "handles")
+
+
+def standby():
+    """The cases of a server that takes no changes, over a table with three handles."""
+    def text(port):
+        rows = [(name, value) for name in (b"10/one", b"10/same", b"10/two") for value in (url(1, OLD.encode() + b"1", 1), administrator())]
+        return tenants(port) + wire.text(wire.value_line(*row) for row in rows)
+    with tempfile.TemporaryDirectory() as folder:
+        table = os.path.join(folder, "table.db")
+        with servers.serving(text, 1, options=("--table", table)):
+            pass
+        with servers.serving(text, 1, options=("--table", table, "--read-only")) as (port,):
+            yield from read_only(port)
+
+
+def spaces(port):
+    """A name with a space is imported, and it is said that no text says it."""
+    said = "line 2: 10/two words: a tenants text can't express the space in the name: `handled export` will leave the handle out\n"
+    rows = b"handle,type,data,ttl\n10/two words,URL,a,1\n"
+    yield "a dry run of a space", run(port, rows, more=["--dry-run"]) == (0, said + "1 could be created, 0 failed; nothing was sent\n", "")
+    yield "a space", run(port, rows) == (0, said + "1 created, 0 there already, 0 failed\n", "")
 
 
 LONG_LIST = ("hdl: 2 error: more handles than fit into one reply (65,536 octets). The server's operator can list all: `handled copy --table FILE --to COPY`, then "
@@ -307,7 +348,7 @@ def updates(port):
     create(port, b"10/same", [url(1, b"https://example.org/same", 60), administrator()])
     before = {b"10/known": KNOWN, b"10/unknown": None}
     told = STEPS % ("would be changed", "would be added")
-    yield "a dry update", update(port, WANTED, "--dry-run") == (0, "line 6: 10/unknown: would be created\n" + told + "1 " + SENT, "") and are_there(port, before)
+    yield "a dry update", update(port, WANTED, "--dry-run") == (0, told + "line 6: 10/unknown: would be created\n1 " + SENT, "") and are_there(port, before)
     after = {b"10/known": [url(1, b"https://example.org/new", 600), *KNOWN[1:3], wire.value(7, b"TITLE", b"A title", OPEN, 60), KNOWN[3]],
              b"10/same": [url(1, b"https://example.org/same", 60), administrator()], b"10/unknown": [url(5, b"https://example.org/unknown", 60), administrator()]}
     yield "an update", update(port, WANTED) == (0, STEPS % ("changed", "added") + "1 created, 1 changed, 1 there already, 0 failed\n", "") and are_there(port, after)
@@ -337,7 +378,7 @@ def refusals(port):
         1, "line 2: 10/typed: the value with index 2 is a key: change it with `hdl batch`\n0 created, 0 changed, 0 there already, 1 failed\n", "")
     yield "a value that no one reads", update(port, b"handle,index,type,data\n10/hidden,1,URL,a\n") == (1, "line 2: 10/hidden: 201 value already exists\n0 created, 0 changed, 0 there already, 1 failed\n", "")
     rows = b"handle,index,type,data,ttl\n10/other,1,URL,a,60\n10/latest,1,URL,a,60\n10/bad,1,URL,,60\n"
-    said = "line 4: 10/bad: the data is empty: create such a value with `hdl batch`\nline 2: 10/other: 401 access denied\n1 created, 0 changed, 0 there already, 2 failed\n"
+    said = "line 2: 10/other: 401 access denied\nline 4: 10/bad: the data is empty: create such a value with `hdl batch`\n1 created, 0 changed, 0 there already, 2 failed\n"
     yield "a key that may not", update(port, rows) == (1, said, "") and are_there(port, {**before, b"10/latest": [url(1, b"a", 60), administrator()]})
     yield "a wrong secret", run(port, b"handle,index,type,data\n10/known,3,NOTE,x\n", secret="wrong", more=["--update"])[0] == 1
 
@@ -459,7 +500,7 @@ def closed():
         status, out, err = run(listener.getsockname()[1], WHOLE)
         thread.join(10)
     end = "; start again with the same file: handles that exist with these values count as done\n"
-    yield "a server that goes away", (status, out) == (3, "0 created, 0 there already, 0 failed\n") and err.startswith("hdl: the connection ") and err.endswith(end)
+    yield "a server that goes away", (status, out) == (3, "0 created, 0 there already, 0 failed\n") and bool(re.match(r"hdl: 127\.0\.0\.1:\d+: the connection ", err)) and err.endswith(end)
 
 
 def main():
@@ -468,7 +509,7 @@ def main():
         (nobody,) = servers.free_ports(1)
         # an unproved program takes minutes for so many handles
         large = [] if servers.IS_UNPROVED else killed(port)
-        return servers.tally(itertools.chain(whole(port), again(port), faults(port), updates(port), refusals(port), replaces(port), exports(port), questions(), unsent(nobody), keys(port), large, closed()))
+        return servers.tally(itertools.chain(whole(port), again(port), faults(port), updates(port), refusals(port), replaces(port), exports(port), questions(), unsent(nobody), keys(port), spaces(port), standby(), large, closed()))
 
 
 if __name__ == "__main__":

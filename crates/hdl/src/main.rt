@@ -21,8 +21,8 @@ mod words;
 
 use hdl_commands::{
     BatchFault, Printout, ask_site, explain, export_values, fresh_secret, import_file, make_site,
-    replace_urls, run_batch_text, run_question, show_site, write_fresh_tenants, write_script,
-    write_tenants,
+    replace_urls, run_batch_text, run_question, show_site, tenants_faults, write_fresh_tenants,
+    write_script, write_tenants,
 };
 use hdl_value::Wire;
 use std::io::{self, Read};
@@ -78,9 +78,20 @@ fn script_all(rt: &HostRuntime) -> io::Result<u8> {
     print_made(rt, write_script(rt.alloc(), &text))
 }
 
+/// Prints the tenants text, or which lines of the words can't be read.
 fn tenants_all(rt: &HostRuntime) -> io::Result<u8> {
     let text = text_of(rt)?;
-    print_made(rt, write_tenants(rt.alloc(), &text))
+    if let Ok(made) = write_tenants(rt.alloc(), &text) {
+        print!(rt; "{made}")?;
+        return Ok(0);
+    }
+    for fault in &tenants_faults(rt.alloc(), &text)? {
+        let _ = eprintln!(rt; "hdl: {fault}");
+    }
+    let _ = eprintln!(rt;
+        "hdl: nothing was printed: correct the lines, and start no server with the empty text"
+    );
+    Ok(2)
 }
 
 /// What the operator does with the text of `hdl init`.

@@ -3,7 +3,7 @@
 use crate::fault::WordFault;
 use crate::key::key_of;
 use crate::request::{Details, request_of, takes_values};
-use crate::telling::tell_fault;
+use crate::telling::{may_be_done, tell_fault};
 use crate::words::{Printout, code_name, push_reply, push_short_reply};
 use hdl_client::{ClientFault, Key, Reply, connect};
 use hdl_frame::Envelope;
@@ -276,13 +276,26 @@ fn tell_word(rt: &HostRuntime, words: &[String], place: usize, fault: WordFault)
     };
 }
 
+/// Whether a request may change the table.
+fn is_change(operation: OpCode) -> bool {
+    takes_values(operation) || matches!(operation, OpCode::RemoveValue | OpCode::DeleteHandle)
+}
+
+/// Says on standard error why no reply came, and that a change may have been made.
+fn tell_no_reply(rt: &HostRuntime, question: &Inquiry, fault: ClientFault) {
+    tell_fault(rt, &question.server, fault);
+    let more = if is_change(question.operation) && may_be_done(fault) {
+        "; the change may have been made: resolve the handle"
+    } else {
+        ""
+    };
+    let _ = eprintln!(rt; "{more}");
+}
+
 /// Says on standard error why a question has no answer.
 fn tell(rt: &HostRuntime, question: &Inquiry, fault: AskFault) {
     match fault {
-        AskFault::Client(fault) => {
-            tell_fault(rt, &question.server, fault);
-            let _ = eprintln!(rt);
-        }
+        AskFault::Client(fault) => tell_no_reply(rt, question, fault),
         AskFault::Word(place, fault) => tell_word(rt, &question.words, place, fault),
         other => {
             let _ = eprintln!(rt; "hdl: {other}");

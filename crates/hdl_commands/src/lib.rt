@@ -55,5 +55,5 @@ pub use key::SECRET_VARIABLE;
 pub use replaces::{Replacement, replace_urls};
 pub use scripts::write_script;
 pub use sites::{SiteFault, SiteWords, ask_site, make_site, show_site};
-pub use tenants::write_tenants;
+pub use tenants::{tenants_faults, write_tenants};
 pub use words::{Printout, explain, operation_in};

@@ -4,7 +4,7 @@ use crate::batch_text::BatchFault;
 use crate::fault::WordFault;
 use hdl_lines::read_value_line;
 use hdl_value::write_value;
-use std::alloc::Global;
+use std::alloc::{AllocError, Global};
 
 /// A value's line in hexadecimal digits.
 fn value_in_digits(alloc: Global, handle: &str, words: &str) -> Result<String, WordFault> {
@@ -24,6 +24,24 @@ fn line_of(alloc: Global, line: &str) -> Result<String, WordFault> {
         }
     }
     Ok(format!(in alloc; "{line}\n")?)
+}
+
+/// The lines of such a text that can't be read, in their order, and why.
+pub fn tenants_faults(alloc: Global, text: &str) -> Result<Vec<BatchFault>, AllocError> {
+    let mut faults = Vec::new(alloc);
+    let mut number = 0usize;
+    for line in text.lines() {
+        number = number.saturating_add(1);
+        match line_of(alloc, line) {
+            Ok(_) => {}
+            Err(WordFault::Memory) => return Err(AllocError),
+            Err(fault) => faults.push(BatchFault {
+                line: number,
+                fault,
+            })?,
+        }
+    }
+    Ok(faults)
 }
 
 /// The tenants text whose values stand in words: a line `value HANDLE WORDS` with the words of a value (`hdl_lines`) gets the value's

@@ -3,7 +3,7 @@
 use crate::batches::is_watched;
 use crate::fault::WordFault;
 use crate::imports::columns::Columns;
-use crate::imports::counts::Counts;
+use crate::imports::counts::{Counts, Refusal};
 use crate::imports::creating::{Creations, create_all};
 use crate::imports::row::DAY;
 use crate::imports::rows::{Form, HandleRows, Part};
@@ -53,7 +53,9 @@ enum ImportFault {
     #[error("{0}")]
     Client(ClientFault),
     #[error("the server refuses the key: check --key and its secret; later rows were not tried")]
-    Refused,
+    Key,
+    #[error("the server takes no changes (--read-only): name the one that does by --server; later rows were not tried")]
+    ReadOnly,
 }
 
 impl ImportFault {
@@ -61,7 +63,16 @@ impl ImportFault {
         match self {
             ImportFault::File(_) | ImportFault::Header(_) | ImportFault::Words(_) => 2,
             ImportFault::Client(_) => 3,
-            ImportFault::Refused => 1,
+            ImportFault::Key | ImportFault::ReadOnly => 1,
+        }
+    }
+}
+
+impl From<Refusal> for ImportFault {
+    fn from(refusal: Refusal) -> ImportFault {
+        match refusal {
+            Refusal::Key => ImportFault::Key,
+            Refusal::ReadOnly => ImportFault::ReadOnly,
         }
     }
 }
@@ -78,7 +89,19 @@ impl From<AllocError> for ImportFault {
     }
 }
 
-/// The next part of the file; its faults are told and counted.
+/// Says which handles of a part have a space in the name.
+fn tell_spaces(rt: &HostRuntime, part: &Part) {
+    for task in &part.tasks {
+        if task.request.handle().contains(&b' ') {
+            let _ = println!(rt;
+                "line {}: {}: a tenants text can't express the space in the name: `handled export` will leave the handle out",
+                task.line, task.title
+            );
+        }
+    }
+}
+
+/// The next part of the file; its faults are told and counted, and which handles no tenants text can say.
 fn next_part(rt: &HostRuntime, rows: &mut HandleRows<'_>, counts: &mut Counts) -> Part {
     let mut faults = Creations {
         rt,
@@ -88,6 +111,7 @@ fn next_part(rt: &HostRuntime, rows: &mut HandleRows<'_>, counts: &mut Counts) -
     let mut part = Part::new(rt.alloc());
     rows.fill(&mut part, &mut faults);
     *counts = faults.counts;
+    tell_spaces(rt, &part);
     part
 }
 
@@ -173,8 +197,8 @@ fn ask_parts<S: Transport>(
             break;
         }
         course.show(rows.lines);
-        if counts.is_key_refused {
-            return Err(ImportFault::Refused);
+        if let Some(refusal) = counts.refusal {
+            return Err(ImportFault::from(refusal));
         }
     }
     Ok(())
@@ -316,11 +340,11 @@ fn tell(rt: &HostRuntime, import: &Import, fault: &ImportFault) {
     };
 }
 
-/// Creates the handles of a CSV file, over one connection, a thousand at a time with several requests in flight, and prints a line for
+/// Creates the handles of a CSV file, over one connection, the first one alone and then a thousand at a time with several requests in flight, and prints a line for
 /// each row and each handle that failed, and at the end how many came to what; progress on standard error. A handle that is there with
 /// just the values of its rows, whenever they were written, counts as done. An update asks first what is there, creates handles that
 /// aren't, brings the values of its rows to one that is, and prints what it changes. Answers the exit status: 0 where all handles are
-/// as the rows say, 1 where some aren't or the key is refused, 2 where nothing was sent, and 3 where the connection failed. A dry import tells
+/// as the rows say, 1 where some aren't, or the key or every change is refused, 2 where nothing was sent, and 3 where the connection failed. A dry import tells
 /// what is wrong with the file alone, and a dry update what it would change.
 pub fn import_file(rt: &HostRuntime, import: &Import) -> u8 {
     let mut counts = Counts::NONE;

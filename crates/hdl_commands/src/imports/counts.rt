@@ -1,9 +1,20 @@
 //! How many handles came to what.
 
-ghost use Rattle.std.specs.Prelude.{◌≢◌};
+ghost use Rattle.std.specs.Prelude.{◌≡◌, ◌≢◌};
 
+use crate::asking::way_on;
 use crate::words::code_name;
 use hdl_client::Task;
+use hdl_msg::{OpCode, ResponseCode};
+
+/// Why all later rows would be refused too.
+#[derive(Clone, Copy, Debug, PartialEq, Eq)]
+pub(crate) enum Refusal {
+    /// The key, or its secret.
+    Key,
+    /// The server takes no changes.
+    ReadOnly,
+}
 
 /// How many handles came to what.
 #[derive(Clone, Copy)]
@@ -12,7 +23,7 @@ pub(crate) struct Counts {
     pub changed: usize,
     pub there: usize,
     pub failed: usize,
-    pub is_key_refused: bool,
+    pub refusal: Option<Refusal>,
 }
 
 impl Counts {
@@ -21,7 +32,7 @@ impl Counts {
         changed: 0,
         there: 0,
         failed: 0,
-        is_key_refused: false,
+        refusal: None,
     };
 
     pub fn fail(&mut self)
@@ -29,14 +40,49 @@ impl Counts {
     {
         self.failed = self.failed.saturating_add(1);
     }
+
+    /// Notes whether a request of this task that was answered by this code shows that all later ones would be refused.
+    pub fn note_code(&mut self, task: &Task, code: u32)
+        ensures { self.new.failed ≡ self.old.failed }
+    {
+        if let Some(refusal) = refusal_by(task.request.handle(), code) {
+            self.refusal = Some(refusal);
+        }
+    }
+}
+
+/// What the names of administrative handles begin with.
+const ROOT: &[u8] = b"0.NA/";
+
+/// Whether the octets name an administrative handle, which no server creates or deletes.
+fn is_administrative(handle: &[u8]) -> bool {
+    handle.len() >= ROOT.len() && handle[..ROOT.len()].eq_ignore_ascii_case(ROOT)
+}
+
+/// Why all later requests would be refused if one for this handle is answered by this code.
+fn refusal_by(handle: &[u8], code: u32) -> Option<Refusal> {
+    match ResponseCode::of(code) {
+        Some(ResponseCode::AuthenticationFailed | ResponseCode::UnableToAuthenticate) => {
+            Some(Refusal::Key)
+        }
+        Some(ResponseCode::OperationDenied) if !is_administrative(handle) => {
+            Some(Refusal::ReadOnly)
+        }
+        _ => None,
+    }
 }
 
 /// Prints a line for a handle that failed.
-pub(crate) fn print_code(rt: &HostRuntime, task: &Task, code: u32, more: &str) {
+pub(crate) fn print_line(rt: &HostRuntime, task: &Task, code: u32, more: &str) {
     let _ = println!(rt;
         "line {}: {}: {code} {}{more}",
         task.line,
         task.title,
         code_name(code)
     );
+}
+
+/// Prints one for a handle of which a request of this operation was answered by a code, with what to do.
+pub(crate) fn print_code(rt: &HostRuntime, task: &Task, operation: OpCode, code: u32) {
+    print_line(rt, task, code, way_on(operation, ResponseCode::of(code)));
 }

@@ -6,12 +6,12 @@ ghost use Rattle.hdl_msg.specs.Codes.{response_number};
 ghost use Rattle.hdl_commands.specs.Ended.{line_of, found_lines, LeavesLines, AsksAgain, CreatesAll};
 
 use crate::fault::WordFault;
-use crate::imports::counts::{Counts, print_code};
+use crate::imports::counts::{Counts, print_code, print_line};
 use crate::imports::reading::question;
 use crate::imports::rows::Faults;
 use hdl_client::{Batch, ClientFault, Outcomes, Session, Task, Transport};
 use hdl_lines::{printed_octets, shown_line};
-use hdl_msg::{Body, ContentView, ReplyView, ResponseCode, Values, read_request};
+use hdl_msg::{Body, ContentView, OpCode, ReplyView, ResponseCode, Values, read_request};
 use std::alloc::{AllocError, Global};
 use std::mem;
 
@@ -51,13 +51,9 @@ impl Outcomes for Creations<'_> {
         {
             return;
         }
-        if code == ResponseCode::AuthenticationFailed.number()
-            || code == ResponseCode::UnableToAuthenticate.number()
-        {
-            self.counts.is_key_refused = true;
-        }
+        self.counts.note_code(task, code);
         self.counts.fail();
-        print_code(self.rt, task, code, "");
+        print_code(self.rt, task, OpCode::CreateHandle, code);
     }
 }
 
@@ -115,9 +111,9 @@ impl Outcomes for Comparisons<'_> {
         self.counts.fail();
         if code == ResponseCode::Success.number() {
             let found = ResponseCode::HandleAlreadyExists.number();
-            print_code(self.rt, task, found, ", with other values");
+            print_line(self.rt, task, found, ", with other values");
         } else {
-            print_code(self.rt, task, code, "");
+            print_code(self.rt, task, OpCode::Resolution, code);
         }
     }
 }

@@ -3,11 +3,11 @@
 ghost use Rattle.std.specs.Prelude.{◌≡◌, All, IfOk, OnOk};
 ghost use Rattle.hdl_commands.specs.Update.{IsReading, OnlyReads};
 
-use crate::imports::counts::{Counts, print_code};
+use crate::imports::counts::{Counts, print_code, print_line};
 use crate::imports::rows::Part;
 use hdl_client::{Batch, ClientFault, Outcomes, RequestMessage, Session, Task, Transport};
 use hdl_limits::{Items, Octets};
-use hdl_msg::{ContentView, ReplyView, RequestBody, ResponseCode, Values};
+use hdl_msg::{ContentView, OpCode, ReplyView, RequestBody, ResponseCode, Values};
 use hdl_value::{Value, ValueFault};
 use std::alloc::{AllocError, Global};
 
@@ -67,17 +67,12 @@ fn reading_of(
 
 impl Readings<'_> {
     fn note_refusal(&mut self, task: &Task, code: u32) {
-        if code == ResponseCode::AuthenticationFailed.number()
-            || code == ResponseCode::UnableToAuthenticate.number()
-        {
-            self.counts.is_key_refused = true;
-        }
-        let more = if code == ResponseCode::Success.number() {
-            ", with values that break the limits"
+        self.counts.note_code(task, code);
+        if code == ResponseCode::Success.number() {
+            print_line(self.rt, task, code, ", with values that break the limits");
         } else {
-            ""
-        };
-        print_code(self.rt, task, code, more);
+            print_code(self.rt, task, OpCode::Resolution, code);
+        }
     }
 }
 

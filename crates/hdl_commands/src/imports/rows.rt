@@ -14,8 +14,12 @@ use hdl_client::Task;
 use hdl_lines::{LineFault, cut_at};
 use hdl_value::{RawRef, Value, Wire};
 use std::alloc::{AllocError, Global};
+use std::mem;
 
-/// How many handles are asked for at a time.
+/// How many handles are asked for first: what the server refuses of it, it refuses of all.
+const FIRST_PART: usize = 1;
+
+/// How many are asked for at a time after that.
 const PART: usize = 1000;
 
 /// Is informed of what isn't imported of a file.
@@ -151,6 +155,8 @@ pub(crate) struct HandleRows<'t> {
     rest: &'t [u8],
     /// How many lines were taken.
     pub lines: usize,
+    /// How many handles are read next at most.
+    most: usize,
     entry: Option<Entry>,
 }
 
@@ -187,6 +193,7 @@ impl<'t> HandleRows<'t> {
             width: names.len(),
             rest,
             lines: 1,
+            most: FIRST_PART,
             entry: None,
         })
     }
@@ -311,11 +318,12 @@ impl<'t> HandleRows<'t> {
         }
     }
 
-    /// Reads the next thousand handles, or those that are left: none where no row is.
+    /// Reads the first handle, then at each call the next thousand, or those that are left: none where no row is.
     pub fn fill<F: Faults>(&mut self, part: &mut Part, faults: &mut F) {
         part.clear();
+        let most = mem::replace(&mut self.most, PART);
         for _ in 0..u64::MAX {
-            if part.tasks.len() >= PART {
+            if part.tasks.len() >= most {
                 return;
             }
             let Some(line) = self.next_line() else {

@@ -142,6 +142,7 @@ fn send_step<S: Transport>(
     key: Option<&Key>,
     task: &Task,
     step: &Step,
+    counts: &mut Counts,
 ) -> Result<bool, ClientFault> {
     let reply = match session.ask(task.request.wire(), &step.body, key) {
         Ok(reply) => reply,
@@ -156,7 +157,8 @@ fn send_step<S: Transport>(
         tell_step(rt, task, step, false);
         return Ok(true);
     }
-    print_code(rt, task, code, "");
+    counts.note_code(task, code);
+    print_code(rt, task, step.body.op_code(), code);
     Ok(false)
 }
 
@@ -166,9 +168,10 @@ fn send_all<S: Transport>(
     session: &mut Session<S>,
     key: Option<&Key>,
     plan: &Plan,
+    counts: &mut Counts,
 ) -> Result<bool, ClientFault> {
     for step in &plan.steps {
-        if !send_step(rt, session, key, &plan.task, step)? {
+        if !send_step(rt, session, key, &plan.task, step, counts)? {
             return Ok(false);
         }
     }
@@ -271,7 +274,8 @@ pub(crate) fn preview_part<S: Transport>(
     Ok(())
 }
 
-/// Updates the handles of a part that are there, and gives the tasks that create the others.
+/// Updates the handles of a part that are there, and gives the tasks that create the others. A refusal that shows that all later ones would be refused ends it,
+/// and then no task is given.
 pub(crate) fn update_part<S: Transport>(
     rt: &HostRuntime,
     session: &mut Session<S>,
@@ -284,10 +288,13 @@ pub(crate) fn update_part<S: Transport>(
     for plan in &plans {
         if plan.steps.is_empty() {
             counts.there = counts.there.saturating_add(1);
-        } else if send_all(rt, session, batch.keys.get(0), plan)? {
+        } else if send_all(rt, session, batch.keys.get(0), plan, counts)? {
             counts.changed = counts.changed.saturating_add(1);
         } else {
             counts.fail();
+        }
+        if counts.refusal.is_some() {
+            return Ok(Vec::new(rt.alloc()));
         }
     }
     Ok(absent)

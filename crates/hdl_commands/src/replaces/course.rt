@@ -194,14 +194,15 @@ impl Course<'_> {
         Ok(Outcome::Changed)
     }
 
-    /// What a code of failure comes to: one that refuses the key ends all.
+    /// What a code of failure comes to: one that refuses the key, or any change, ends all.
     fn failed(&self, code: u32) -> Result<Outcome, ReplaceFault> {
-        if code == ResponseCode::AuthenticationFailed.number()
-            || code == ResponseCode::UnableToAuthenticate.number()
-        {
-            return Err(ReplaceFault::Refused);
+        match ResponseCode::of(code) {
+            Some(ResponseCode::AuthenticationFailed | ResponseCode::UnableToAuthenticate) => {
+                Err(ReplaceFault::Refused)
+            }
+            Some(ResponseCode::OperationDenied) => Err(ReplaceFault::ReadOnly),
+            _ => Ok(Outcome::Failed),
         }
-        Ok(Outcome::Failed)
     }
 
     /// Whether the octets are a handle of the prefix.

@@ -24,13 +24,18 @@ pub(crate) enum ReplaceFault {
     List(u32),
     #[error("the server refuses the key: check --key and its secret; later handles were not tried")]
     Refused,
+    #[error("the server takes no changes (--read-only): name the one that does by --server; later handles were not tried")]
+    ReadOnly,
 }
 
 impl ReplaceFault {
     pub fn status(&self) -> u8 {
         match self {
             ReplaceFault::Client(_) => 3,
-            ReplaceFault::List(_) | ReplaceFault::Refused | ReplaceFault::Unwritten(_) => 1,
+            ReplaceFault::List(_)
+            | ReplaceFault::Refused
+            | ReplaceFault::ReadOnly
+            | ReplaceFault::Unwritten(_) => 1,
             _ => 2,
         }
     }
