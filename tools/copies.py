@@ -197,7 +197,7 @@ def restored(folder):
     yield "a copy by a link has what is in the log", copy(link, copied).returncode == 0
     yield "a change after the copy", changed(ports[0], 2)
     done = restore(copied, file)
-    yield "a restore under a server", (done.returncode, done.stderr[:14]) == (4, b"table: in use:") and number_in(ports[0]) == 2
+    yield "a restore under a server", (done.returncode, done.stderr[:14], b"handled stop --control" in done.stderr) == (4, b"table: in use:", True) and number_in(ports[0]) == 2
     process.kill()
     process.wait()
     process.stdout.close()
@@ -236,10 +236,11 @@ def unrestored(folder, copied, file):
         with open(file, "rb") as now:
             return done.returncode == 4 and done.stderr.startswith(said) and now.read() == before
 
-    for name, octets, said in (("a copy that was cut", whole[:5000], b"damaged"), ("an empty copy", b"", b"another layout"), ("a changed bit", whole[:9000] + bytes([whole[9000] ^ 1]) + whole[9001:], b"damaged")):
+    damaged, foreign = b"it is not a SQLite database, or a page", b"it is a SQLite database, but not one of this program"
+    for name, octets, said in (("a copy that was cut", whole[:5000], damaged), ("an empty copy", b"", foreign), ("a changed bit", whole[:9000] + bytes([whole[9000] ^ 1]) + whole[9001:], damaged)):
         with open(bad, "wb") as made:
             made.write(octets)
-        yield name, refused(restore(bad, file), b"restore: the copy isn't taken, and the table stays as it is: table: " + said)
+        yield name, refused(restore(bad, file), b"restore: the copy isn't taken, and the table stays as it is: " + said)
         yield name + " leaves nothing", not any(left.startswith("anew.db.") for left in os.listdir(folder))
     yield "no copy", refused(restore(os.path.join(folder, "none.db"), file), b"restore: the copy can't be read: ")
     nowhere = os.path.join(folder, "nowhere")

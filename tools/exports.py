@@ -280,9 +280,9 @@ def refused(folder):
     done = export(good, "--table", missing)
     yield "no file", (done.returncode, done.stdout, done.stderr[:18], os.path.exists(missing)) == (4, b"", b"table: cannot open", False)
     done = opened(b"publisher acme\n", folder)
-    yield "a faulty text", (done.returncode, done.stdout, done.stderr) == (3, b"", b"tenants: line 1: bad line\n")
+    yield "a faulty text", (done.returncode, done.stdout, done.stderr) == (3, b"", b"the tenants text is refused: `handled check < TEXT` says what is wrong in each line, and what to do\ntenants: line 1: bad line\n")
     done = opened(b"", folder)
-    yield "an empty text", (done.returncode, done.stdout, done.stderr) == (0, b"", b"")
+    yield "an empty text", (done.returncode, done.stdout, done.stderr) == (3, b"", b"tenants: the text is empty: end the command with < TEXT, or name the file of the text by --text\n")
     # a comment that ends with CR keeps it, and a last line without an end gets one
     done = opened(b"# a\r\r\n\npublisher acme 2 1\r\nprefix 10 acme", folder)
     yield "lines as they stand", (done.returncode, done.stdout) == (0, b"# a\r\r\n\npublisher acme 2 1\nprefix 10 acme\n")

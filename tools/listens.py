@@ -190,23 +190,17 @@ def not_ours():
     return said and b"doesn't have the address" in said
 
 
-def given_twice():
-    """An address that is given twice is told."""
-    ports = servers.free_ports(2)
-    said = fault_of(servers.listening(["127.0.0.1", "127.0.0.1"]), ports, "127.0.0.1", ports[0])
-    return said and b"given twice" in said
-
-
 def no_address():
-    """A word that is no address is refused with status 2, and so is --amplify without a number."""
+    """A word that is no address is refused with status 2, and so is one given twice or of a link alone, and --amplify without a number."""
     good = True
-    for options in (["--listen", "localhost"], ["--listen", "127.0.0.1:80"], ["--listen", ""], ["--amplify", "0"], ["--amplify", "many"]):
+    twice = servers.listening(["::1", "127.0.0.1", "0:0::1"])
+    for options in (["--listen", "localhost"], ["--listen", "127.0.0.1:80"], ["--listen", ""], twice, ["--listen", "fe80::1"], ["--amplify", "0"], ["--amplify", "many"]):
         status, printed, said = run(options, servers.free_ports(2))
         good = good and status == 2 and not printed and said[0].startswith(b"error: ")
     return good
 
 
-CASES = (lines_and_end, turns_are_served, loopback_alone, all_are_served, idle_costs_little, port_is_taken, not_ours, given_twice, no_address)
+CASES = (lines_and_end, turns_are_served, loopback_alone, all_are_served, idle_costs_little, port_is_taken, not_ours, no_address)
 
 
 def main():

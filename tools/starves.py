@@ -278,6 +278,7 @@ def taken_file(folder):
         yield "none while it is away", server.acme.change() == BUSY and server.health() == 503
         for end in ("", "-wal"):
             os.rename(file + end + ".away", file + end)
+        yield "it is told that it is back", soon(lambda: server.said("table: the file and its log are back"))
         yield "all goes on once it is back", server.acme.change() == wire.SUCCESS and server.health() == 200 and server.stop() == 0
     file = os.path.join(folder, "last.db")
     with Server(folder, ["--table", file]) as server:

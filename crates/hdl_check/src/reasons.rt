@@ -22,6 +22,11 @@ const VALUE_FORM: &str =
 const LINE_FORM: &str =
     "a line begins with `publisher`, `prefix`, `site` or `value` and a space, or with `#`, or is empty";
 
+const SPACE_FORM: &str =
+    "fields are separated by one space, and none is at the end of a line: take the others out";
+
+const MARK_FORM: &str = "the text begins with a byte order mark: save it as UTF-8 without one";
+
 const NAME_FORM: &str = "a publisher's name is 1 to 32 of a-z, 0-9 and -";
 
 const LANES_FORM: &str = "LANES is a number from 2 to 64; the last lane is that of datagrams";
@@ -53,6 +58,10 @@ const SITE_PUBLISHER: &str =
 const HEX_FORM: &str =
     "HEX is an even number of hexadecimal digits; hdl tenants makes them of a value in words";
 
+/// What is said once of all values in words.
+pub(crate) const IN_WORDS: &str =
+    "the value is in words, and perhaps others below: `hdl tenants < WORDS > TEXT` makes the text of them";
+
 const MORE_OCTETS: &str = "octets follow the value: a line has one value";
 
 const MANY_VALUES: &str = "the handle has 1,024 values already, which is the limit";
@@ -66,6 +75,10 @@ fn is_publisher_name(name: &str) -> bool {
         && name.as_bytes().iter().all(|octet| octet.is_ascii_lowercase()
             || octet.is_ascii_digit()
             || *octet == b'-')
+}
+
+fn is_decimal(text: &str) -> bool {
+    !text.is_empty() && text.as_bytes().iter().all(|octet| octet.is_ascii_digit())
 }
 
 fn has_upper(text: &str) -> bool {
@@ -156,6 +169,16 @@ fn value_reason(
     words(TWICE_INDEX)
 }
 
+/// Whether a value's line has words as `hdl tenants` reads them: INDEX TYPE TTL PERMISSIONS FORMAT, and data.
+fn is_in_words(fields: &[&str]) -> bool {
+    match fields {
+        [_, _, index, _, ttl, permissions, _, ..] => {
+            is_decimal(index) && is_decimal(ttl) && is_decimal(permissions)
+        }
+        _ => false,
+    }
+}
+
 /// What is wrong with the words of a value.
 fn value_words(
     alloc: Global,
@@ -163,6 +186,9 @@ fn value_words(
     kind: &LineKind<'_>,
     fields: &[&str],
 ) -> Result<String, AllocError> {
+    if is_in_words(fields) {
+        return String::from_str(alloc, IN_WORDS);
+    }
     let [_, handle, digits] = fields else {
         return String::from_str(alloc, VALUE_FORM);
     };
@@ -206,12 +232,16 @@ pub(crate) fn reason_of(
     if fault != TenantFault::BadLine {
         return words_of(alloc, fault);
     }
+    if fields.iter().any(|field| field.is_empty()) {
+        return String::from_str(alloc, SPACE_FORM);
+    }
     match fields.first() {
         Some(word) => match *word {
             "publisher" => String::from_str(alloc, publisher_reason(fields)),
             "prefix" => String::from_str(alloc, prefix_reason(fields)),
             "site" => site_reason(alloc, fields),
             "value" => value_words(alloc, accepted, kind, fields),
+            word if word.starts_with('\u{feff}') => String::from_str(alloc, MARK_FORM),
             _ => String::from_str(alloc, LINE_FORM),
         },
         None => String::from_str(alloc, LINE_FORM),

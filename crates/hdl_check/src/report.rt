@@ -5,7 +5,7 @@ ghost use Rattle.std.specs.Str.Lines.{lines};
 ghost use Rattle.hdl_check.specs.Report.{IsReportOf};
 
 use crate::judging::{Accepted, LineKind, kind_of};
-use crate::reasons::{is_follow_up, reason_of, words_of};
+use crate::reasons::{IN_WORDS, is_follow_up, reason_of, words_of};
 use hdl_tenants::{TenantFault, Tenants};
 use hdl_value::Wire;
 use std::alloc::{AllocError, AllocFailed, Global};
@@ -51,6 +51,15 @@ impl Found {
         Ok(())
     }
 
+    /// Whether a fault that has this reason needs no line more: that values are in words is said once.
+    fn is_said(&self, reason: &str) -> bool {
+        reason == IN_WORDS
+            && self
+                .faults
+                .iter()
+                .any(|fault| fault.words.as_str() == IN_WORDS)
+    }
+
     /// Judges the line of this kind with these fields. One that lacks just a faulty line is no fault more.
     fn judge<'a>(
         &mut self,
@@ -61,7 +70,7 @@ impl Found {
     ) -> Result<(), AllocError> {
         if let Some(fault) = accepted.judge(kind, line)? {
             let words = reason_of(self.alloc, accepted, kind, fields, fault)?;
-            if !is_follow_up(accepted, kind, fields, &words) {
+            if !self.is_said(&words) && !is_follow_up(accepted, kind, fields, &words) {
                 self.push_fault(self.line, words)?;
             }
             return accepted.note_faulty(kind, fields, line);

@@ -104,13 +104,18 @@ fn cluster_args<'a>(alloc: Global, command: Command<'a>) -> Result<Command<'a>, 
             .conflicts_with("table")?
             .conflicts_with("row-cache")?,
         )?
-        .arg(option(
-            alloc,
-            "cluster-name",
-            "NAME",
-            "What the table's keys in etcd begin with; handles by default",
-        )
-        .requires_arg("cluster")?)
+        .arg(cluster_name_arg(alloc)?)
+}
+
+/// The option that names the table among others on the same members.
+fn cluster_name_arg<'a>(alloc: Global) -> Result<Arg<'a>, AllocError> {
+    option(
+        alloc,
+        "cluster-name",
+        "NAME",
+        "What the table's keys in etcd begin with; handles by default",
+    )
+    .requires_arg("cluster")
 }
 
 /// The options of `serve` by which turns, waiting and crowds have a limit.
@@ -262,7 +267,7 @@ fn replay_command<'a>(alloc: Global) -> Result<Command<'a>, AllocError> {
 fn export_command<'a>(alloc: Global) -> Result<Command<'a>, AllocError> {
     Command::new(alloc, "export")
         .about(
-            "Writes the table of a file as a tenants text; publishers and prefixes come from the text on standard input, or in --text",
+            "Writes the table of a file, or of a cluster, as a tenants text; publishers and prefixes come from the text on standard input, or in --text",
         )
         .arg(option(
             alloc,
@@ -270,7 +275,15 @@ fn export_command<'a>(alloc: Global) -> Result<Command<'a>, AllocError> {
             "FILE",
             "The SQLite file of the table, or a copy of it; no server may have it open",
         )
-        .required(true))?
+        .required_unless_present("cluster")?)?
+        .arg(option(
+            alloc,
+            "cluster",
+            "MEMBER[,..]",
+            "Reads the table that servers have in etcd, from one of these members, each as HOST:PORT or unix:PATH",
+        )
+        .conflicts_with("table")?)?
+        .arg(cluster_name_arg(alloc)?)?
         .arg(text_arg(alloc))?
         .arg(option(
             alloc,

@@ -76,10 +76,17 @@ pub struct ServeOptions {
     pub cluster: Option<ClusterOptions>,
 }
 
+/// Where the table is that is exported.
+#[derive(Drop)]
+pub enum ExportSource {
+    File(TableFile),
+    Cluster(ClusterOptions),
+}
+
 /// The options of `export`.
 #[derive(Drop)]
 pub struct ExportOptions {
-    pub table: TableFile,
+    pub source: ExportSource,
     /// The file that the text with publishers and prefixes is in. Without one it is on standard input.
     pub text: Option<String>,
     /// Whose part is written. Without one it is the whole table.
@@ -115,7 +122,7 @@ pub enum Invocation {
     Reopen {
         control: String,
     },
-    /// The table in a file is written as a tenants text.
+    /// The table in a file, or that of a cluster, is written as a tenants text.
     Export(ExportOptions),
     /// The tenants text is checked, and whether its ports can be had at these addresses.
     Check {

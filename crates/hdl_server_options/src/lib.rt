@@ -25,7 +25,7 @@ mod unclear;
 mod values;
 
 pub use invocation::{
-    BoundWord, ClusterOptions, ExportOptions, Invocation, LimitOptions, OptionsFault, ServeOptions,
-    SupervisionOptions, TableFile,
+    BoundWord, ClusterOptions, ExportOptions, ExportSource, Invocation, LimitOptions, OptionsFault,
+    ServeOptions, SupervisionOptions, TableFile,
 };
 pub use reading::read_options;

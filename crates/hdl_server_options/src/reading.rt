@@ -1,8 +1,8 @@
 //! Reading the command line.
 
 use crate::commands::command;
-use crate::invocation::{ExportOptions, Invocation, OptionsFault, TableFile};
-use crate::serving::{addresses, serve_options};
+use crate::invocation::{ExportOptions, ExportSource, Invocation, OptionsFault, TableFile};
+use crate::serving::{addresses, cluster, serve_options};
 use crate::unclear::{Unclear, print_unclear};
 use crate::values::{copy_of, required, table_file};
 use clap::ArgMatches;
@@ -42,19 +42,26 @@ fn reopen_options(alloc: Global, found: &ArgMatches) -> Result<Invocation, Uncle
     Ok(Invocation::Reopen { control })
 }
 
-/// What is asked for by the words after `export`.
-fn export_options(alloc: Global, found: &ArgMatches) -> Result<Invocation, Unclear> {
-    let path = required(alloc, found, "table")?;
-    let table = TableFile {
-        path,
+/// Where the table is that is exported.
+fn export_source(alloc: Global, found: &ArgMatches) -> Result<ExportSource, Unclear> {
+    if let Some(cluster) = cluster(alloc, found)? {
+        return Ok(ExportSource::Cluster(cluster));
+    }
+    Ok(ExportSource::File(TableFile {
+        path: required(alloc, found, "table")?,
         has_sums: true,
         accepts_loss: false,
-    };
+    }))
+}
+
+/// What is asked for by the words after `export`.
+fn export_options(alloc: Global, found: &ArgMatches) -> Result<Invocation, Unclear> {
+    let source = export_source(alloc, found)?;
     let text = copy_of(alloc, found.get_str("text"))?;
     let publisher = copy_of(alloc, found.get_str("publisher"))?;
     let to = copy_of(alloc, found.get_str("to"))?;
     Ok(Invocation::Export(ExportOptions {
-        table,
+        source,
         text,
         publisher,
         to,

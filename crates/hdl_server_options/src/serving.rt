@@ -31,36 +31,37 @@ fn address_of(word: &str) -> Option<IpAddr> {
     word.parse::<IpAddr>().ok()
 }
 
-/// The first word that spells no address.
-fn no_address<'a>(words: &[&'a str]) -> Option<&'a str> {
-    for word in words {
-        if address_of(word).is_none() {
-            return Some(word);
+/// Whether an address means another machine on each network, so that no port can be opened there without the network's name: fe80::/10.
+fn is_link_local(address: &IpAddr) -> bool {
+    match address {
+        IpAddr::V4(_) => false,
+        IpAddr::V6(address) => {
+            let [first, second, ..] = address.octets();
+            first == 0xfe && second >= 0x80 && second < 0xc0
         }
     }
-    None
 }
 
-/// The addresses that the words spell; 127.0.0.1 where there is none.
-fn addresses_of(alloc: Global, words: &[&str]) -> Result<Vec<IpAddr>, AllocError> {
+/// The addresses after `--listen`, each of which has to be one that ports can be opened at, and another one; 127.0.0.1 where there is none.
+pub fn addresses(alloc: Global, words: &[&str]) -> Result<Vec<IpAddr>, Unclear> {
     let mut addresses = Vec::new(alloc);
     for word in words {
-        if let Some(address) = address_of(word) {
-            addresses.push(address)?;
+        let Some(address) = address_of(word) else {
+            return Err(Unclear::Address(String::from_str(alloc, word)?));
+        };
+        if is_link_local(&address) {
+            return Err(Unclear::LinkLocal(String::from_str(alloc, word)?));
         }
+        if addresses.contains(&address) {
+            return Err(Unclear::AddressTwice(String::from_str(alloc, word)?));
+        }
+        addresses.push(address).map_err(AllocError::from)?;
     }
     if addresses.is_empty() {
-        addresses.push(IpAddr::V4(Ipv4Addr::LOCALHOST))?;
+        let loopback = IpAddr::V4(Ipv4Addr::LOCALHOST);
+        addresses.push(loopback).map_err(AllocError::from)?;
     }
     Ok(addresses)
-}
-
-/// The addresses after `--listen`, each of which has to be one.
-pub fn addresses(alloc: Global, words: &[&str]) -> Result<Vec<IpAddr>, Unclear> {
-    if let Some(word) = no_address(words) {
-        return Err(Unclear::Address(String::from_str(alloc, word)?));
-    }
-    Ok(addresses_of(alloc, words)?)
 }
 
 /// The number that a word spells in digits alone.
@@ -179,7 +180,10 @@ fn is_name(word: &str) -> bool {
 }
 
 /// Where the table is that other servers have too, if members are named.
-fn cluster(alloc: Global, found: &ArgMatches) -> Result<Option<ClusterOptions>, Unclear> {
+pub(crate) fn cluster(
+    alloc: Global,
+    found: &ArgMatches,
+) -> Result<Option<ClusterOptions>, Unclear> {
     let Some(words) = found.get_str("cluster") else {
         return Ok(None);
     };

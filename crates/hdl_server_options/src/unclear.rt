@@ -13,6 +13,10 @@ pub enum Unclear {
     Words(Error),
     /// This is no address to listen at.
     Address(String),
+    /// This address can't be listened at without the name of its network.
+    LinkLocal(String),
+    /// This address is given a second time.
+    AddressTwice(String),
     /// This is no address of a proxy.
     Proxied(String),
     /// This is no bound.
@@ -51,6 +55,9 @@ fn print_help(rt: &HostRuntime, error: Error) -> Result<u8, OptionsFault> {
     }
 }
 
+/// How the option of an address is written.
+const LISTEN: &str = "--listen <ADDRESS>";
+
 /// How the option of a bound is written.
 const BOUND: &str = "--bound <NAME=VALUES,OCTETS>";
 
@@ -69,11 +76,18 @@ fn refuse_value(rt: &HostRuntime, word: &str, option: &str, reason: &str) -> u8 
 pub fn print_unclear(rt: &HostRuntime, unclear: Unclear) -> Result<u8, OptionsFault> {
     match unclear {
         Unclear::Words(error) => print_help(rt, error),
-        Unclear::Address(word) => Ok(refuse_value(
+        Unclear::Address(word) => Ok(refuse_value(rt, word.as_str(), LISTEN, ADDRESS)),
+        Unclear::LinkLocal(word) => Ok(refuse_value(
             rt,
             word.as_str(),
-            "--listen <ADDRESS>",
-            ADDRESS,
+            LISTEN,
+            "a link-local address can't be used; name another one that `ip address` shows",
+        )),
+        Unclear::AddressTwice(word) => Ok(refuse_value(
+            rt,
+            word.as_str(),
+            LISTEN,
+            "this address is given already; give each one once",
         )),
         Unclear::Proxied(word) => Ok(refuse_value(
             rt,

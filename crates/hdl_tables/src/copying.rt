@@ -9,7 +9,7 @@ use crate::pair::{Note, close_noted, open_copy};
 use crate::paths::Paths;
 use crate::reasons::PathReason;
 use std::fmt;
-use std::fs::{File, OpenOptions};
+use std::fs::{self, File, OpenOptions};
 use std::io::{self, ErrorKind, Read, Write};
 use std::os::unix::fs::OpenOptionsExt;
 
@@ -152,10 +152,15 @@ fn copy_once(
     }
 }
 
-/// Copies a file and its log.
+/// Copies a file and its log, where nothing is yet.
 pub(crate) fn copy_both(rt: &HostRuntime, from: &Paths, to: &Paths) -> Result<(), CopyFault> {
     if let Err(e) = File::open(rt, &from.file) {
         return Err(CopyFault::From(e.kind()));
+    }
+    for path in [&to.file, &to.log] {
+        if fs::symlink_metadata(rt, path).is_ok() {
+            return Err(CopyFault::Exists);
+        }
     }
     for turn in 0..TRIES {
         if copy_once(rt, from, to, turn == 0)? {

@@ -198,16 +198,16 @@ fn export_part<R: Rows>(
     })
 }
 
-/// What writes the table in a file as a tenants text, or the part of the publisher of this name, into a new file or to standard output.
-#[derive(Drop)]
-pub struct Export<'a> {
-    pub tenants: Tenants,
+/// What writes a table as a tenants text, or the part of the publisher of this name, into a new file or to standard output.
+#[derive(Clone, Copy)]
+pub struct ExportText<'a> {
+    /// The text that has the publishers and prefixes.
     pub text: &'a str,
     pub publisher: &'a Option<String>,
     pub to: &'a Option<String>,
 }
 
-impl Export<'_> {
+impl ExportText<'_> {
     fn exported<R: Rows>(&self, rt: &HostRuntime, rows: &mut R) -> Result<Exported, TabledFault> {
         match self.publisher {
             Some(name) => export_part(rt, self.text, name.as_str(), rows),
@@ -216,7 +216,7 @@ impl Export<'_> {
     }
 
     /// Says what no text says, and then writes the text. Answers the exit status.
-    fn put<R: Rows>(&self, rt: &HostRuntime, rows: &mut R) -> Result<u8, TabledFault> {
+    pub fn put<R: Rows>(&self, rt: &HostRuntime, rows: &mut R) -> Result<u8, TabledFault> {
         let Exported {
             text,
             left,
@@ -228,6 +228,13 @@ impl Export<'_> {
         put_text(rt, &text, self.to)?;
         Ok(status)
     }
+}
+
+/// What writes the table in a file as such a text.
+#[derive(Drop)]
+pub struct Export<'a> {
+    pub tenants: Tenants,
+    pub text: ExportText<'a>,
 }
 
 /// Closes the table where it was printed, and answers the exit status.
@@ -248,7 +255,7 @@ impl FileWork for Export<'_> {
 
     fn run<T: Owing + Closing + Drop>(self, rt: &HostRuntime, table: T) -> Result<u8, TabledFault> {
         let mut table = table;
-        let printed = self.put(rt, &mut table);
+        let printed = self.text.put(rt, &mut table);
         close_after(rt, table, printed)
     }
 }

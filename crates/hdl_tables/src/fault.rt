@@ -32,6 +32,15 @@ pub enum TabledFault {
 const PAIR_HELP: &str =
     "keep both files, and put the right ones back, or restore a copy (handled restore); or start once with --accept-loss, which goes on with what is whole";
 
+/// What an operator can do besides what a fault of the file says.
+fn way_on(fault: &TableFault) -> &'static str {
+    match fault {
+        TableFault::InUse => " (a server by `handled stop --control PATH`)",
+        TableFault::Device => ", and the room on it",
+        _ => "",
+    }
+}
+
 impl TabledFault {
     /// The exit status: 4 for the file, and else that of the run.
     pub fn status(&self) -> u8 {
@@ -54,7 +63,7 @@ impl fmt::Display for TabledFault {
     fn fmt<W: fmt::Write>(&self, f: &mut fmt::Formatter<W>) -> fmt::Result {
         match self {
             TabledFault::Run(fault) => write!(f, "{fault}"),
-            TabledFault::Table(fault) => write!(f, "{fault}"),
+            TabledFault::Table(fault) => write!(f, "{fault}{}", way_on(fault)),
             TabledFault::InUse => f.write_str(
                 "table: in use: another process has the file open; make a copy of it (handled copy) and name that, or end the process first",
             ),

@@ -15,7 +15,9 @@ impl fmt::Display for PathReason {
     fn fmt<W: fmt::Write>(&self, f: &mut fmt::Formatter<W>) -> fmt::Result {
         match self.0 {
             ErrorKind::NotFound => f.write_str("it isn't there"),
-            ErrorKind::PermissionDenied => f.write_str("this program's user may not"),
+            ErrorKind::PermissionDenied => f.write_str(
+                "this program's user may not, but root and the server's user may",
+            ),
             kind => write!(f, "{kind}"),
         }
     }

@@ -52,12 +52,11 @@ impl fmt::Display for RestoreFault {
             RestoreFault::Busy => f.write_str(
                 "--from is a server's own file, which changed during each try: make a copy of it first",
             ),
-            RestoreFault::Copy(fault) => {
-                write!(
-                    f,
-                    "the copy isn't taken, and the table stays as it is: {fault}"
-                )
-            }
+            RestoreFault::Copy(fault) => write!(
+                f,
+                "the copy isn't taken, and the table stays as it is: {}",
+                CopyReason(*fault)
+            ),
             RestoreFault::Pair(fault) => {
                 write!(
                     f,
@@ -81,6 +80,28 @@ impl fmt::Display for RestoreFault {
                 "the copy can't be put in its place: {}: check the folder, and the room on the disk",
                 PathReason(*kind)
             ),
+        }
+    }
+}
+
+/// Why a copy isn't taken, and what to do.
+#[derive(Clone, Copy)]
+struct CopyReason(TableFault);
+
+impl fmt::Display for CopyReason {
+    fn fmt<W: fmt::Write>(&self, f: &mut fmt::Formatter<W>) -> fmt::Result {
+        match self.0 {
+            TableFault::Damaged => f.write_str(
+                "it is not a SQLite database, or a page, its checksum or its log is wrong: take another copy",
+            ),
+            TableFault::Layout => f.write_str(
+                "it is a SQLite database, but not one of this program, or it was copied without its log: take a copy that `handled copy` made",
+            ),
+            TableFault::Row(fault) => write!(
+                f,
+                "unsound row: {fault}: correct it, or take another copy"
+            ),
+            other => write!(f, "{other}"),
         }
     }
 }

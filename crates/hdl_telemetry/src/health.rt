@@ -19,6 +19,8 @@ const GONE: &str =
 const REPLACED: &str =
     "table: shut for writes: another file is at the path of the file or its log. Reads go on; changes are answered busy. Move both back: changes then go on. Or copy them from /proc/PID/fd of this process, and restart with one of the two";
 
+const BACK: &str = "table: the file and its log are back: changes are taken again";
+
 const OVERWRITTEN: &str =
     "table: shut for writes: another program wrote the file or its log. Reads go on; changes are answered busy. If nothing else wrote them (`touch` counts), restart; otherwise restore a copy";
 
@@ -38,6 +40,7 @@ pub struct Health {
     shut: Notice,
     gone: Notice,
     replaced: Notice,
+    back: Notice,
     overwritten: Notice,
     failing: Notice,
     short: Notice,
@@ -63,6 +66,7 @@ impl Health {
             shut: Notice::new(alloc, SHUT)?,
             gone: Notice::new(alloc, GONE)?,
             replaced: Notice::new(alloc, REPLACED)?,
+            back: Notice::new(alloc, BACK)?,
             overwritten: Notice::new(alloc, OVERWRITTEN)?,
             failing: Notice::new(alloc, FAILING)?,
             short: Notice::new(alloc, SHORT)?,
@@ -86,12 +90,16 @@ impl Health {
     /// Notes what another program made of the table's file, as it was seen just now. While the file is away the table takes no changes, and once it was overwritten never again.
     pub fn see_file(&self, change: Option<FileChange>) {
         let is_away = matches!(change, Some(FileChange::Gone | FileChange::Replaced));
-        self.is_away.store(is_away, SeqCst);
+        let was_away = self.is_away.swap(is_away, SeqCst);
         match change {
             Some(FileChange::Gone) => self.gone.raise(),
             Some(FileChange::Replaced) => self.replaced.raise(),
             Some(FileChange::Overwritten) => self.overwritten.raise(),
-            None => {}
+            None => {
+                if was_away && !self.is_shut() {
+                    self.back.raise();
+                }
+            }
         }
     }
 
@@ -190,11 +198,12 @@ impl Health {
     }
 
     /// Each line that may have to be said.
-    fn notices(&self) -> [&Notice; 8] {
+    fn notices(&self) -> [&Notice; 9] {
         [
             &self.shut,
             &self.gone,
             &self.replaced,
+            &self.back,
             &self.overwritten,
             &self.failing,
             &self.short,
