@@ -1,6 +1,6 @@
 //! One request over a stream, and its answer.
 
-ghost use Rattle.std.specs.Prelude.{◌≡◌, ◌≤◌, length, IfOk, OnOk};
+ghost use Rattle.std.specs.Prelude.{◌≡◌, ◌≤◌, length, IfOk, IfSome, OnOk};
 ghost use Rattle.hdl_gateway.specs.Answers.{served};
 ghost use Rattle.hdl_gateway.specs.declared.exchange.TheConstants.{ANSWER_MAX};
 
@@ -8,7 +8,7 @@ use crate::fault::GatewayFault;
 use httparse::spans::{EMPTY_HEADER_SPAN, HeaderSpan, parse_response};
 use httparse::{Status, parse_chunk_size};
 use std::alloc::Global;
-use std::io::{Read, Write};
+use std::io::{ErrorKind, Read, Write};
 
 /// The maximum length of an answer's body, in octets.
 pub const ANSWER_MAX: usize = 67_108_864;
@@ -32,8 +32,8 @@ enum Framing {
 
 /// The head of an answer.
 #[derive(Clone, Copy)]
-struct Head {
-    status: u16,
+pub(crate) struct Head {
+    pub(crate) status: u16,
     framing: Framing,
 }
 
@@ -49,7 +49,7 @@ pub struct Exchange<S: Read + Write + Drop> {
 }
 
 /// What the status says of a request. All but three are no answer: etcd gives one for transactions that are made afterwards too.
-fn served(status: u16) -> Result<(), GatewayFault>
+pub(crate) fn served(status: u16) -> Result<(), GatewayFault>
     ensures { result ≡ served status }
 {
     match status {
@@ -107,9 +107,21 @@ impl<S: Read + Write + Drop> Exchange<S> {
         }
     }
 
-    /// Waits for more.
-    fn more(&mut self) -> Result<(), GatewayFault> {
-        let count = self.stream.read(&mut self.part)?;
+    /// Lets go of what is done with.
+    fn close_gap(&mut self) {
+        let at = self.at.min(self.came.len());
+        drop(self.came.drain(..at));
+        self.at = 0;
+    }
+
+    /// Reads once, and doesn't wait if the stream doesn't. Whether something came.
+    pub(crate) fn try_more(&mut self) -> Result<bool, GatewayFault> {
+        self.close_gap();
+        let count = match self.stream.read(&mut self.part) {
+            Ok(count) => count,
+            Err(error) if error.kind() == ErrorKind::WouldBlock => return Ok(false),
+            Err(_) => return Err(GatewayFault::NoAnswer),
+        };
         let Some(came) = self.part.get(..count) else {
             return Err(GatewayFault::NoAnswer);
         };
@@ -117,18 +129,19 @@ impl<S: Read + Write + Drop> Exchange<S> {
             return Err(GatewayFault::NoAnswer);
         }
         self.came.extend_from_slice(came)?;
-        Ok(())
+        Ok(true)
     }
 
-    /// Waits for more of a head or of a chunk's size, which have a limit.
-    fn more_head(&mut self) -> Result<(), GatewayFault> {
-        if self.left().len() > HEAD_MAX {
-            return Err(GatewayFault::Malformed);
+    /// Waits for more.
+    fn more(&mut self) -> Result<(), GatewayFault> {
+        if self.try_more()? {
+            Ok(())
+        } else {
+            Err(GatewayFault::NoAnswer)
         }
-        self.more()
     }
 
-    fn send(&mut self, path: &str, body: &str) -> Result<(), GatewayFault> {
+    pub(crate) fn send(&mut self, path: &str, body: &str) -> Result<(), GatewayFault> {
         let length = body.len();
         let head = format!(in self.alloc;
             "POST {path} HTTP/1.1\r\nHost: etcd\r\nContent-Type: application/json\r\nContent-Length: {length}\r\n\r\n"
@@ -139,23 +152,31 @@ impl<S: Read + Write + Drop> Exchange<S> {
         Ok(())
     }
 
+    /// Takes the head, if all of it came.
+    pub(crate) fn try_head(&mut self) -> Result<Option<Head>, GatewayFault> {
+        let mut headers = [EMPTY_HEADER_SPAN; HEADERS_MAX];
+        let left = self.left();
+        match parse_response(left, &mut headers) {
+            Ok(Status::Complete(spans)) => {
+                let headers = headers.get(..spans.headers).unwrap_or(&[]);
+                let Some(framing) = framing_of(left, headers) else {
+                    return Err(GatewayFault::Malformed);
+                };
+                let status = spans.code;
+                self.pass(spans.len);
+                Ok(Some(Head { status, framing }))
+            }
+            Ok(Status::Partial) if left.len() <= HEAD_MAX => Ok(None),
+            _ => Err(GatewayFault::Malformed),
+        }
+    }
+
     fn head(&mut self) -> Result<Head, GatewayFault> {
         for _ in 0..u64::MAX {
-            let mut headers = [EMPTY_HEADER_SPAN; HEADERS_MAX];
-            let left = self.left();
-            match parse_response(left, &mut headers) {
-                Ok(Status::Complete(spans)) => {
-                    let headers = headers.get(..spans.headers).unwrap_or(&[]);
-                    let Some(framing) = framing_of(left, headers) else {
-                        return Err(GatewayFault::Malformed);
-                    };
-                    let status = spans.code;
-                    self.pass(spans.len);
-                    return Ok(Head { status, framing });
-                }
-                Ok(Status::Partial) => self.more_head()?,
-                Err(_) => return Err(GatewayFault::Malformed),
+            if let Some(head) = self.try_head()? {
+                return Ok(head);
             }
+            self.more()?;
         }
         Err(GatewayFault::NoAnswer)
     }
@@ -184,28 +205,62 @@ impl<S: Read + Write + Drop> Exchange<S> {
         Err(GatewayFault::NoAnswer)
     }
 
+    /// The length of the line that begins a chunk, and that of the chunk, if the line came.
+    fn try_size(&self) -> Result<Option<(usize, usize)>, GatewayFault> {
+        let left = self.left();
+        match parse_chunk_size(left) {
+            Ok(Status::Complete((length, size))) => match usize::try_from(size) {
+                Ok(size) => Ok(Some((length, size))),
+                Err(_) => Err(GatewayFault::Oversized),
+            },
+            Ok(Status::Partial) if left.len() <= HEAD_MAX => Ok(None),
+            _ => Err(GatewayFault::Malformed),
+        }
+    }
+
     /// Puts the next chunk behind others. Whether it was the last one, which is empty.
     fn chunk(&mut self, body: &mut Vec<u8>) -> Result<bool, GatewayFault>
         requires { length body.old.items ≤ ANSWER_MAX }
         ensures { OnOk result (length body.new.items ≤ ANSWER_MAX) }
     {
         for _ in 0..u64::MAX {
-            match parse_chunk_size(self.left()) {
-                Ok(Status::Complete((length, size))) => {
-                    self.pass(length);
-                    let Ok(size) = usize::try_from(size) else {
-                        return Err(GatewayFault::Oversized);
-                    };
-                    self.take(size, body)?;
-                    let mut line = Vec::new(self.alloc);
-                    self.take(2, &mut line)?;
-                    return Ok(size == 0);
-                }
-                Ok(Status::Partial) => self.more_head()?,
-                Err(_) => return Err(GatewayFault::Malformed),
+            if let Some((length, size)) = self.try_size()? {
+                self.pass(length);
+                self.take(size, body)?;
+                let mut line = Vec::new(self.alloc);
+                self.take(2, &mut line)?;
+                return Ok(size == 0);
             }
+            self.more()?;
         }
         Err(GatewayFault::NoAnswer)
+    }
+
+    /// Takes the next chunk, if all of it came. The last one, which is empty, ends the answer.
+    pub(crate) fn try_chunk(&mut self, most: usize) -> Result<Option<Vec<u8>>, GatewayFault>
+        ensures { IfOk result (λ o. IfSome o (λ chunk. length chunk.items ≤ most)) }
+    {
+        let Some((length, size)) = self.try_size()? else {
+            return Ok(None);
+        };
+        if size == 0 {
+            return Err(GatewayFault::NoAnswer);
+        }
+        if size > most {
+            return Err(GatewayFault::Oversized);
+        }
+        let end = length.saturating_add(size);
+        let behind = end.saturating_add(2);
+        let left = self.left();
+        let Some(octets) = left.get(length..end) else {
+            return Ok(None);
+        };
+        if left.len() < behind {
+            return Ok(None);
+        }
+        let chunk = Vec::from_slice(self.alloc, octets)?;
+        self.pass(behind);
+        Ok(Some(chunk))
     }
 
     fn body(&mut self, framing: Framing) -> Result<Vec<u8>, GatewayFault>
@@ -234,23 +289,5 @@ impl<S: Read + Write + Drop> Exchange<S> {
         let body = self.body(head.framing)?;
         served(head.status)?;
         Ok(body)
-    }
-
-    /// Sends a request whose answer is lines without an end.
-    pub fn begin(&mut self, path: &str, text: &str) -> Result<(), GatewayFault> {
-        self.send(path, text)?;
-        let head = self.head()?;
-        served(head.status)
-    }
-
-    /// The next lines of such an answer: the gateway makes a chunk of whole lines.
-    pub fn next_lines(&mut self) -> Result<Vec<u8>, GatewayFault>
-        ensures bounded { IfOk result (λ lines. length lines.items ≤ ANSWER_MAX) }
-    {
-        let mut lines = Vec::new(self.alloc);
-        if self.chunk(&mut lines)? {
-            return Err(GatewayFault::NoAnswer);
-        }
-        Ok(lines)
     }
 }

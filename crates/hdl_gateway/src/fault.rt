@@ -20,7 +20,7 @@ pub enum GatewayFault {
     #[error("etcd's space is spent: compact, defragment, or raise --quota-backend-bytes")]
     Spent,
     /// What came isn't an answer of etcd's gateway.
-    #[error("an answer that isn't one of etcd's gateway")]
+    #[error("an answer that isn't one of etcd's gateway: check --cluster")]
     Malformed,
     /// The answer has more than `ANSWER_MAX` octets.
     #[error("an answer of more than 64 MiB")]

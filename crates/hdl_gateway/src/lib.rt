@@ -3,7 +3,7 @@
 //! ```text
 //! Transaction -> transaction_text -> Exchange::ask "/v3/kv/txn"   -> outcome_of -> Made, or what stands at another key
 //! Keys        -> range_text       -> Exchange::ask "/v3/kv/range" -> page_of    -> a Page of pairs, and its revision
-//! Keys        -> watch_text       -> Exchange::begin "/v3/watch"  -> next_lines, and watched_of of each line
+//! Keys        -> watch_text       -> Lines::begin "/v3/watch"     -> next_line, and watched_of of each
 //! ```
 //!
 //! What is asked reads as the JSON that `specs/Asking.antt` says. What is answered is what `specs/Answers.antt` finds in the octets that came, which have a
@@ -23,8 +23,10 @@ mod answers;
 mod asking;
 mod exchange;
 mod fault;
+mod lines;
 
 pub use answers::{Outcome, Page, Pair, Watched, outcome_of, page_of, watched_of};
 pub use asking::{Fence, Keys, Operation, Transaction, range_text, transaction_text, watch_text};
 pub use exchange::{ANSWER_MAX, Exchange};
 pub use fault::GatewayFault;
+pub use lines::{LINE_MAX, Lines};

@@ -1,5 +1,5 @@
 -- The list of changes: what is read of it, and what is put behind it.
-use Rattle.std.specs.Prelude.{◌≡◌, ℕ, List, [], ◌∷◌, Option, Some, None, option_map}
+use Rattle.std.specs.Prelude.{◌≡◌, ℕ, Bool, false, List, [], ◌∷◌, Option, Some, None, option_map, unwrap_or, nat_le}
 use Rattle.std.specs.List.{AllZip, Any}
 use Rattle.serde_json.specs.Read.{read}
 use Rattle.hdl_entries.specs.declared.entry.Entry.{Entry}
@@ -9,7 +9,8 @@ use Rattle.hdl_entries.specs.declared.chain.Place.TheVariants.{Next}
 use Rattle.hdl_entries.specs.declared.keys.Key.TheVariants as key
 use Rattle.hdl_entries.specs.Entries.{entry_octets}
 use Rattle.hdl_entries.specs.Chain.{place_of, after_entry, chain_after, AreChained}
-use Rattle.hdl_entries.specs.Keys.{key_octets, chain_octets}
+use Rattle.hdl_entries.specs.Keys.{key_octets, chain_octets, chain_at}
+use Rattle.hdl_value.specs.Reading.{whole_of}
 use Rattle.hdl_gateway.specs.declared.asking.Fence.{Fence}
 use Rattle.hdl_gateway.specs.declared.asking.Fence.TheVariants.{Has, IsAbsent}
 use Rattle.hdl_gateway.specs.declared.asking.Operation.{Operation}
@@ -28,6 +29,10 @@ Follow old new entries = AreChained old entries × (new ≡ chain_after old entr
 abbrev pub FollowsOne : Chain → Chain → Option Entry → Type 0
 FollowsOne old new None = new ≡ old
 FollowsOne old new (Some entry) = (place_of old entry ≡ Next) × (new ≡ after_entry entry.number (entry_octets entry))
+
+-- the octets are a head, all changes of which were taken
+abbrev pub is_taken : Chain → List ℕ → Bool
+is_taken chain head = unwrap_or (option_map (λ (told : Chain). nat_le told.number chain.number) (whole_of chain_at head)) false
 
 -- ---- what is put
 

@@ -5,6 +5,7 @@
 //! load, next_page           the table as it is at one revision, as changes that make it of an empty one
 //! next_entries              the changes that stand behind those that were taken
 //! put_of, send              puts a change behind those that were taken, or tells that another one stands there
+//! watch, is_due             whether it's time to read the next entries, as a member tells
 //! ```
 //!
 //! Each change is one transaction of etcd: it is made only if the list is as it was taken. It writes the entry, the head, and the keys of the handle and its values, from which
@@ -29,6 +30,8 @@ mod messages;
 mod opening;
 mod standing;
 mod streams;
+mod watch;
+mod watching;
 
 pub use fault::ListFault;
 pub use hdl_gateway::GatewayFault;

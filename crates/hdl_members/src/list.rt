@@ -36,16 +36,18 @@ const KEPT: u64 = 16_384;
 const PAGE: u32 = 1_000;
 
 /// The revision of what stands there now.
-const NOW: &str = "0";
+pub(crate) const NOW: &str = "0";
 
 /// The list of changes in etcd, as far as this server has read it.
 #[derive(Drop)]
 pub struct SharedList<R> {
     pub(crate) alloc: Global,
-    members: Members<R>,
+    pub(crate) members: Members<R>,
     /// What all keys begin with.
     pub(crate) name: Vec<u8>,
     pub(crate) chain: Chain,
+    /// Whether the list has changes that weren't read, as far as is known.
+    pub(crate) is_due: bool,
     rng: StdRng,
 }
 
@@ -68,7 +70,7 @@ pub enum Sent {
 }
 
 /// The keys from this one on, up to the last one that is as long and begins so.
-fn with_last(alloc: Global, last: &[u8]) -> Result<Vec<u8>, AllocError> {
+pub(crate) fn with_last(alloc: Global, last: &[u8]) -> Result<Vec<u8>, AllocError> {
     let mut to = Vec::from_slice(alloc, last)?;
     to.push(0)?;
     Ok(to)
@@ -110,8 +112,14 @@ impl<R: Net<Stream = TcpStream>> SharedList<R> {
             members: Members::new(rt, alloc, addresses),
             name,
             chain: Chain::new(),
+            is_due: false,
             rng,
         }
+    }
+
+    /// The addresses of all members.
+    pub fn addresses(&self) -> &[String] {
+        self.members.addresses()
     }
 
     /// How many entries were taken.
@@ -147,7 +155,7 @@ impl<R: Net<Stream = TcpStream>> SharedList<R> {
     {
         let text = range_text(self.alloc, keys, limit, revision)?;
         let mut fault = GatewayFault::NoAnswer;
-        for _ in 0..self.members.count() {
+        for _ in 0..self.members.addresses().len() {
             match self.members.ask("/v3/kv/range", text.as_str()) {
                 Ok(body) => return Ok(page_of(self.alloc, &body)?),
                 Err(other) => fault = other,
@@ -403,6 +411,7 @@ impl<R: Net<Stream = TcpStream>> SharedList<R> {
         ensures fault { OnErr result (self.new.chain ≡ self.old.chain) }
     {
         // the last one that was taken is read too: it tells whether the list is still the same
+        self.is_due = false;
         let from = self.key(Key::Entry(self.chain.number.max(1)))?;
         let last = self.key(Key::Entry(u64::MAX))?;
         let to = with_last(self.alloc, &last)?;
@@ -414,6 +423,7 @@ impl<R: Net<Stream = TcpStream>> SharedList<R> {
             PAGE,
             NOW,
         )?;
+        self.is_due = page.has_more;
         let chain = self.chain;
         let taken = self.take_page(page.pairs.as_slice());
         if taken.is_err() {

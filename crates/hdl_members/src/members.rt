@@ -1,11 +1,12 @@
 //! The members of etcd, which are asked in turn.
 
 use crate::streams::MemberStream;
-use hdl_gateway::{Exchange, GatewayFault};
+use crate::watch::Watch;
+use hdl_gateway::{Exchange, GatewayFault, Watched};
 use std::alloc::Global;
 use std::net::{Net, TcpStream};
 
-/// The members of etcd, by `HOST:PORT` or `unix:PATH`, one of which is asked at a time.
+/// The members of etcd, by `HOST:PORT` or `unix:PATH`, one of which is asked at a time, and watched.
 #[derive(Drop)]
 pub struct Members<R> {
     rt: R,
@@ -14,6 +15,7 @@ pub struct Members<R> {
     /// The place of the one that is asked next.
     at: usize,
     exchange: Option<Exchange<MemberStream>>,
+    watch: Option<Watch>,
 }
 
 impl<R: Net<Stream = TcpStream>> Members<R> {
@@ -24,12 +26,21 @@ impl<R: Net<Stream = TcpStream>> Members<R> {
             addresses,
             at: 0,
             exchange: None,
+            watch: None,
         }
     }
 
-    /// How many members there are.
-    pub fn count(&self) -> usize {
-        self.addresses.len()
+    /// The addresses of all members.
+    pub fn addresses(&self) -> &[String] {
+        &self.addresses
+    }
+
+    /// A stream to the member that is asked next.
+    fn stream(&self) -> Result<MemberStream, GatewayFault> {
+        let Some(address) = self.addresses.get(self.at) else {
+            return Err(GatewayFault::NoAnswer);
+        };
+        Ok(MemberStream::connect(&self.rt, address.as_str())?)
     }
 
     /// A connection to the member that is asked next.
@@ -37,15 +48,12 @@ impl<R: Net<Stream = TcpStream>> Members<R> {
         if let Some(exchange) = self.exchange.take() {
             return Ok(exchange);
         }
-        let Some(address) = self.addresses.get(self.at) else {
-            return Err(GatewayFault::NoAnswer);
-        };
-        let stream = MemberStream::connect(&self.rt, address.as_str())?;
-        Exchange::over(self.alloc, stream)
+        Exchange::over(self.alloc, self.stream()?)
     }
 
-    /// The next member is asked from now on.
+    /// The next member is asked from now on, and the watch is over.
     fn pass(&mut self) {
+        self.watch = None;
         self.at = self.at.saturating_add(1);
         if self.at >= self.addresses.len() {
             self.at = 0;
@@ -66,5 +74,42 @@ impl<R: Net<Stream = TcpStream>> Members<R> {
             self.pass();
         }
         asked
+    }
+
+    /// Begins to watch at the member that answered last, by this request.
+    pub fn begin_watch(&mut self, text: &str) -> Result<(), GatewayFault> {
+        if self.exchange.is_none() {
+            return Err(GatewayFault::NoAnswer);
+        }
+        self.watch = Some(Watch::begin(self.alloc, self.stream()?, text)?);
+        Ok(())
+    }
+
+    /// Watches no more.
+    pub fn end_watch(&mut self) {
+        self.watch = None;
+    }
+
+    /// Whether a watch was begun, and isn't over.
+    pub fn has_watch(&self) -> bool {
+        self.watch.is_some()
+    }
+
+    /// Whether the watch tells of what is put.
+    pub fn is_watched(&self) -> bool {
+        match &self.watch {
+            Some(watch) => watch.stands(),
+            None => false,
+        }
+    }
+
+    /// What the watch tells next, if something came. After a fault it is over.
+    pub fn watched(&mut self) -> Result<Option<Watched>, GatewayFault> {
+        let Some(mut watch) = self.watch.take() else {
+            return Ok(None);
+        };
+        let told = watch.next()?;
+        self.watch = Some(watch);
+        Ok(told)
     }
 }

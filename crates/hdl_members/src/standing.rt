@@ -119,7 +119,7 @@ impl Standing {
             Some("the server has parted from the others, and ends. Standard error says why\n")
         } else if self.is_cut() {
             Some(
-                "no member of etcd answers: changes are answered busy; reads go on. Standard error says since when\n",
+                "no member of etcd at the addresses of --cluster answers: changes are answered busy; reads go on. Check --cluster and the members. Standard error says since when\n",
             )
         } else if self.behind() > BEHIND {
             Some("the server is more than 1000 changes behind the others; reads go on\n")

@@ -52,6 +52,14 @@ impl MemberStream {
             None => Ok(MemberStream::Tcp(connect_tcp(rt, address)?)),
         }
     }
+
+    /// From now on a call that would wait fails with `WouldBlock`.
+    pub(crate) fn set_nonblocking(&self) -> io::Result<()> {
+        match self {
+            MemberStream::Tcp(stream) => stream.set_nonblocking(true),
+            MemberStream::Unix(stream) => stream.set_nonblocking(true),
+        }
+    }
 }
 
 impl Read for MemberStream {

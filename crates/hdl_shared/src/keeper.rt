@@ -11,7 +11,7 @@ use hdl_members::{
 use hdl_name::Name;
 use hdl_serve::StampedChange;
 use hdl_value::Value;
-use std::alloc::Global;
+use std::alloc::{AllocError, Global};
 use std::net::{Net, TcpStream};
 use std::rt::Clock;
 use std::sync::Arc;
@@ -25,8 +25,13 @@ const SILENCE: u64 = 5;
 /// How many milliseconds a short wait takes.
 const WAIT: u64 = 1;
 
-/// After how many short waits others' changes are looked for.
+/// After how many short waits others' changes are looked for: without a watch, and beside one, which tells of them before.
 const WAITS: u32 = 20;
+
+const WAITS_WATCHED: u32 = 1_000;
+
+/// How many seconds pass at least from the beginning of a watch to that of another.
+const WATCH_EACH: u64 = 1;
 
 /// After how many short waits a change without an answer is sent again.
 const WAITS_AGAIN: u32 = 50;
@@ -59,6 +64,8 @@ pub struct Keeper<R> {
     loaded: u64,
     /// When a member answered last.
     heard: Option<Instant>,
+    /// When a watch was begun last.
+    watched: Option<Instant>,
 }
 
 /// A change that stands in the list, and the write that it makes.
@@ -100,6 +107,7 @@ impl<R: Net<Stream = TcpStream> + Clock + Eprint + Drop> Keeper<R> {
             told: 0,
             loaded: 0,
             heard: None,
+            watched: None,
         }
     }
 
@@ -107,14 +115,34 @@ impl<R: Net<Stream = TcpStream> + Clock + Eprint + Drop> Keeper<R> {
         thread::sleep(&self.rt, Duration::from_millis(WAIT));
     }
 
+    /// Says which members were asked at the start, if none answered.
+    fn say_asked(&self, fault: ListFault) {
+        if fault != ListFault::Member(GatewayFault::NoAnswer) {
+            return;
+        }
+        if let Ok(asked) = endpoints(self.alloc, self.list.addresses()) {
+            let _ = eprintln!(self.rt;
+                "cluster: no member answers at {asked}: check --cluster; `etcdctl --endpoints {asked} endpoint status --cluster` says how members are"
+            );
+        }
+    }
+
     /// Puts the handles of a text with their first values, those that were never opened.
     pub fn open_all(&mut self, opening: &[(Name, Value)]) -> Result<(), ListFault> {
-        self.list.open_all(opening)
+        let opened = self.list.open_all(opening);
+        if let Err(fault) = opened {
+            self.say_asked(fault);
+        }
+        opened
     }
 
     /// Begins to read the table.
     pub fn load(&mut self) -> Result<Loading, ListFault> {
-        self.list.load()
+        let loading = self.list.load();
+        if let Err(fault) = &loading {
+            self.say_asked(*fault);
+        }
+        loading
     }
 
     /// Brings the next part of the table, which has to be let in before the next call. Whether there was one.
@@ -205,14 +233,14 @@ impl<R: Net<Stream = TcpStream> + Clock + Eprint + Drop> Keeper<R> {
         Err(ListFault::Memory)
     }
 
-    /// Brings what others changed.
-    fn follow(&mut self) -> Result<(), ListFault> {
+    /// Brings what others changed. Whether something was there.
+    fn follow(&mut self) -> Result<bool, ListFault> {
         let entries = self.list.next_entries()?;
         self.note_known();
         for entry in &entries {
             self.tell_entry(entry)?;
         }
-        Ok(())
+        Ok(!entries.is_empty())
     }
 
     /// Says a line on standard error.
@@ -258,13 +286,56 @@ impl<R: Net<Stream = TcpStream> + Clock + Eprint + Drop> Keeper<R> {
         false
     }
 
-    /// Looks for what others changed.
-    fn look(&mut self) {
+    /// Looks for what others changed. Whether something was there.
+    fn look(&mut self) -> bool {
         match self.follow() {
-            Ok(()) => self.note_answer(),
-            Err(fault) => {
-                self.note_fault(fault);
+            Ok(found) => {
+                self.note_answer();
+                found
             }
+            Err(fault) => {
+                self.list.end_watch();
+                self.note_fault(fault);
+                false
+            }
+        }
+    }
+
+    /// Begins to watch, unless a watch is there or one was begun just now. It brings nothing: it only tells when to look.
+    fn watch(&mut self) {
+        if self.list.has_watch() {
+            return;
+        }
+        let Ok(now) = Instant::now(&self.rt) else {
+            return;
+        };
+        let pause = Duration::from_secs(WATCH_EACH);
+        if let Some(begun) = self.watched {
+            if now.saturating_duration_since(begun) < pause {
+                return;
+            }
+        }
+        self.watched = Some(now);
+        // without a watch others' changes are looked for more often
+        let _ = self.list.watch();
+    }
+
+    /// Looks since it is time, and sees that a watch is there. One that didn't tell what was found is over.
+    fn look_in_time(&mut self) {
+        let is_told = self.list.is_due();
+        let found = self.look();
+        if found && !is_told && self.list.is_watched() {
+            self.list.end_watch();
+        }
+        self.watch();
+    }
+
+    /// After how many short waits it is time to look, though no watch tells so.
+    fn waits(&self) -> u32 {
+        if self.list.is_watched() && !self.standing.has_parted() {
+            WAITS_WATCHED
+        } else {
+            WAITS
         }
     }
 
@@ -314,7 +385,7 @@ impl<R: Net<Stream = TcpStream> + Clock + Eprint + Drop> Keeper<R> {
             Ok(Some(put)) => {
                 let is_made = self.send(&put);
                 if !is_made {
-                    self.look();
+                    let _ = self.look();
                 }
                 is_made
             }
@@ -355,8 +426,9 @@ impl<R: Net<Stream = TcpStream> + Clock + Eprint + Drop> Keeper<R> {
     /// Waits until something is ordered, or until it is time to look. The server is woken as long as it hasn't taken all that it was told.
     fn rest<W: Waking>(&mut self, waking: &W) {
         waking.wake();
-        for _ in 0..WAITS {
-            if self.orders.sees() {
+        for _ in 0..self.waits() {
+            let is_due = self.list.is_due() && !self.standing.has_parted();
+            if is_due || self.orders.sees() {
                 return;
             }
             if self.standing.behind() > 0 {
@@ -372,11 +444,29 @@ impl<R: Net<Stream = TcpStream> + Clock + Eprint + Drop> Keeper<R> {
             match self.orders.take() {
                 Some(order) => self.serve(order),
                 None if self.standing.has_parted() => waking.end(),
-                None => self.look(),
+                None => self.look_in_time(),
             }
             self.rest(&waking);
         }
     }
+}
+
+/// The members as etcdctl takes them: with commas, and two strokes before the path of a Unix socket.
+fn endpoints(alloc: Global, addresses: &[String]) -> Result<String, AllocError> {
+    let mut all = String::new(alloc);
+    for address in addresses {
+        if !all.is_empty() {
+            all.push_str(",")?;
+        }
+        match address.as_str().strip_prefix("unix:") {
+            Some(path) => {
+                all.push_str("unix://")?;
+                all.push_str(path)?;
+            }
+            None => all.push_str(address.as_str())?,
+        }
+    }
+    Ok(all)
 }
 
 /// Whether etcd refused a change, which then isn't made.

@@ -29,7 +29,8 @@
 //!   decides the event again. A client sees a later answer.
 //! - **A change under way is never given up.** Nobody can tell what became of it until a member answers, so its lane waits. Once no member answered for five seconds each other change is
 //!   answered busy at once.
-//! - **The keeper asks for others' changes** each 20 milliseconds, and beside each change that lost a race. A watch would only bring them sooner.
+//! - **The keeper reads others' changes from the list** once a watch tells that its head was put, and else once a second. While no watch stands it reads each 20 milliseconds,
+//!   and it reads after each change that lost a race. No clause rests on what a watch tells.
 #![tactic(auto)]
 
 mod journal;
