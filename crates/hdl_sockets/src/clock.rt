@@ -6,8 +6,13 @@ use std::sync::Arc;
 use std::thread;
 use std::time::{Duration, Instant, SystemTime};
 
-/// How many microseconds a worker's long pause sleeps.
+/// How many microseconds a worker's long pause sleeps at least, and at most.
 const SLEEP: u64 = 100;
+
+const SLEEP_MOST: u64 = 2_000;
+
+/// A worker's long pause sleeps for one part in so many of what it waited: many workers that wait for a disk or for other machines would take the processors that these need.
+const SLEEP_PART: u32 = 16;
 
 /// For how many microseconds a wait has short pauses.
 const SHORT: u64 = 30;
@@ -83,14 +88,17 @@ impl<R: std::rt::Clock> MachineClock<R> {
         }
     }
 
-    /// A long pause.
-    fn sleep(&mut self) {
+    /// A long pause of a wait that began so long ago.
+    fn sleep(&mut self, waited: Duration) {
         let slept = match &mut self.part {
             Part::Serves(sleep) => sleep.rest(),
             Part::Works(_) => false,
         };
         if !slept {
-            thread::sleep(&self.rt, Duration::from_micros(SLEEP));
+            let least = Duration::from_micros(SLEEP);
+            let most = Duration::from_micros(SLEEP_MOST);
+            let part = waited / SLEEP_PART;
+            thread::sleep(&self.rt, part.max(least).min(most));
         }
     }
 
@@ -101,7 +109,7 @@ impl<R: std::rt::Clock> MachineClock<R> {
             thread::yield_now();
         } else {
             self.has_slept = waited < Duration::from_millis(IDLE);
-            self.sleep();
+            self.sleep(waited);
         }
     }
 }
@@ -133,7 +141,7 @@ impl<R: std::rt::Clock> Clock for MachineClock<R> {
                 let began = self.wait_of(now);
                 self.rest(now.saturating_duration_since(began));
             }
-            Err(_) => self.sleep(),
+            Err(_) => self.sleep(Duration::ZERO),
         }
     }
 
