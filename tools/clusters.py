@@ -145,11 +145,11 @@ def spelt(octets):
 
 
 class Wire:
-    """A port at which a member answers, until the wire is cut, or held: then it takes what is sent and nothing goes on."""
+    """A port at which a member answers, until the wire is cut, or held: then it takes what is sent and nothing goes on. Watches alone can be silenced."""
 
     def __init__(self, address):
         self.address, self.streams, self.lock = address, [], threading.Lock()
-        self.goes, self.is_cut = threading.Event(), False
+        self.goes, self.is_cut, self.is_silent, self.ranges = threading.Event(), False, False, 0
         self.goes.set()
         self.listener = socket.create_server(("127.0.0.1", 0))
         self.port = self.listener.getsockname()[1]
@@ -169,14 +169,19 @@ class Wire:
                 continue
             with self.lock:
                 self.streams = [one for one in self.streams if one.fileno() >= 0] + [near, far]
+            watch = threading.Event()
             for source, sink in ((near, far), (far, near)):
-                threading.Thread(target=self.pass_on, args=(source, sink), daemon=True).start()
+                threading.Thread(target=self.pass_on, args=(source, sink, watch), daemon=True).start()
 
-    def pass_on(self, source, sink):
+    def pass_on(self, source, sink, watch):
         with contextlib.suppress(OSError):
             while octets := source.recv(65536):
                 self.goes.wait()
-                sink.sendall(octets)
+                self.ranges += octets.startswith(b"POST /v3/kv/range")
+                if octets.startswith(b"POST /v3/watch"):
+                    watch.set()
+                if not (self.is_silent and watch.is_set()):
+                    sink.sendall(octets)
         for one in (source, sink):
             with contextlib.suppress(OSError):
                 one.shutdown(socket.SHUT_RDWR)
@@ -474,6 +479,30 @@ def compare_servers(journal, running):
                     yield "server %d has %s of %s and not %s" % (place, found, handle, table.get(handle))
 
 
+def export(server, *words):
+    """Exports the table that the server's members have."""
+    at = server.words.index("--cluster")
+    return subprocess.run([servers.HANDLED, "export", *server.words[at:at + 2], *words], input=server.text(), capture_output=True, check=False)
+
+
+def compare_export(journal, done):
+    """The faults of an export, against the table of the list."""
+    data = {}
+    for line in done.stdout.decode().splitlines():
+        word, *rest = line.split(" ")
+        if word != "value":
+            continue
+        handle, octets = rest[0].encode(), bytes.fromhex(rest[1])
+        found = change_of(wire.message(wire.ADD, wire.string(handle) + wire.listed([octets])))[2]
+        if found is not None:
+            data[handle] = found
+    table = journal.table()
+    if data != {handle: found for handle, found in table.items() if found}:
+        yield "what is exported isn't what the list gives"
+    if done.returncode:
+        yield "status %d: %s" % (done.returncode, done.stderr)
+
+
 # ---- rounds
 
 def one_fault(members, running, chance):
@@ -542,6 +571,7 @@ def rounds(folder, count, seed):
         yield from all_compared(journal, members, running, clients.told)
         yield from cut_off(members, running)
         yield from held(running)
+        yield from followed(running)
         yield from written_by_others(members, running)
     finally:
         for server in running:
@@ -571,6 +601,9 @@ def all_compared(journal, members, running, told):
     yield is_clean("keys", compare_keys(journal, members))
     yield is_clean("servers", compare_servers(journal, running))
     yield is_clean("sums", compare_sums(running))
+    yield is_clean("export", compare_export(journal, export(running[0])))
+    nothing = export(running[0], "--cluster-name", "nothing")
+    yield "an export of a name that isn't there is refused", (nothing.returncode, nothing.stdout) == (4, b"") and b"check --cluster and --cluster-name" in nothing.stderr
 
 
 def until(holds, seconds):
@@ -617,6 +650,26 @@ def held(running):
             one.mend()
         waiting.join()
         yield "it is made once a member answers", codes == [wire.SUCCESS] and third.data_of(b"10/cut") == b"held"
+
+
+def followed(running):
+    """How a server follows another one: by a watch, and without it."""
+    first, second = running[:2]
+    ranges = sum(one.ranges for one in second.wires)
+    time.sleep(3)
+    yield "an idle server asks about once a second", sum(one.ranges for one in second.wires) - ranges <= 6 * servers.SLOWER
+    with lasting.Client(first.port) as client, lasting.Client(second.port) as other:
+        for one in second.wires:
+            one.is_silent = True
+        client.create(b"10/silent", b"made")
+        yield "a server whose watch is silent has others' changes", until(lambda: other.data_of(b"10/silent") == b"made", 5)
+        for one in second.wires:
+            one.is_silent = False
+        for one in second.wires:
+            one.cut()
+            one.mend()
+        client.modify(b"10/silent", b"again")
+        yield "so has one whose watch was cut", until(lambda: other.data_of(b"10/silent") == b"again", 5)
 
 
 def ends_with(server, status, words):
@@ -767,7 +820,8 @@ def without_members():
     port, nobody = servers.free_ports(2)
     words = [servers.HANDLED, "serve", "--cluster", "127.0.0.1:%d" % nobody]
     done = subprocess.run(words, input=lasting.tenants(port), capture_output=True, check=False)
-    yield "a start without a member is refused", done.returncode == 7 and b"cluster: etcd gave no answer" in done.stderr
+    said = b"cluster: no member answers at 127.0.0.1:%d: check --cluster" % nobody
+    yield "a start without a member is refused, and says where it asked", done.returncode == 7 and said in done.stderr
 
 
 def main(count=ROUNDS, seed=SEED):

@@ -30,6 +30,9 @@ MOMENT = re.compile(r"^[0-9]{4}-[0-9]{2}-[0-9]{2}T[0-9]{2}:[0-9]{2}:[0-9]{2}(\.[
 END = 5
 # More octets than a log has of one page, which notes whose it is.
 NOTED = 3 * 4096
+# A user who may have few threads, and what a server says that has too few.
+OTHER = 65534
+THREADS = b"threads can't be started, and each lane needs one: raise TasksMax of the service, or `ulimit -u`"
 REFERENCE = "300:0.NA/10"
 # The address of a proxy before the server.
 PROXY = "127.0.0.2"
@@ -300,6 +303,11 @@ def ended(process, control, file, clients):
     process, _ = servers.serve(tenants, 2, options=("--table", file, "--control", control))
     other = subprocess.run([servers.HANDLED, "serve", "--control", control], input=tenants(*servers.free_ports(2)), stdout=subprocess.PIPE, stderr=subprocess.PIPE)
     yield "a path that another server has", (other.returncode, b"cannot make the socket of --control" in other.stderr, other.stderr.splitlines()[-1:]) == (1, True, [b"device fault"])
+    with open(file, "rb") as kept:
+        before = kept.read()
+    other = subprocess.run([servers.HANDLED, "serve", "--control", file], input=tenants(*servers.free_ports(2)), stdout=subprocess.PIPE, stderr=subprocess.PIPE)
+    with open(file, "rb") as kept:
+        yield "a file isn't taken for a socket, and stays", (other.returncode, b"the path is that of a file" in other.stderr, kept.read() == before) == (1, True, True)
     done, _ = stop(control)
     yield "it ends too", done.returncode == 0 and process.wait(END) == 0
     process.stdout.close()
@@ -344,7 +352,7 @@ def rotated(folder):
     servers.end(process)
     process.stderr.close()
     code, _, said = said_to(control)
-    yield "nobody is there to open it", code == 1 and said.startswith(b"reopen: no server at ")
+    yield "nobody is there to open it", code == 1 and said.startswith(b"reopen: no server answers at ")
     control = os.path.join(folder, "logless")
     process, _ = servers.serve(tenants, 2, options=("--control", control))
     code, _, said = said_to(control)
@@ -361,6 +369,34 @@ def taken(folder):
             for file in ((), ("--table", os.path.join(folder, "taken.db"))):
                 done = subprocess.run([servers.HANDLED, "serve", *options, *file], input=tenants(*ports), capture_output=True, timeout=60 * servers.SLOWER, check=False)
                 yield name + " is taken: nothing begins", done.returncode == 1 and b"cannot listen on 127.0.0.1:%d: " % port in done.stderr and b"begins" not in done.stderr and not done.stdout
+    first, second = ports = servers.free_ports(2)
+    told = (
+        ("--control", os.path.join(folder, "none", "control"), b"cannot make the socket of --control: its folder is missing"),
+        ("--control", folder, b"cannot make the socket of --control: "),
+        ("--status", "127.0.0.1:%d" % second, b"cannot listen on 127.0.0.1:%d: " % second),
+    )
+    for option, word, said in told:
+        done = subprocess.run([servers.HANDLED, "serve", option, word, *file], input=tenants(*ports), capture_output=True, timeout=60 * servers.SLOWER, check=False)
+        yield "%s that can't be had" % option, done.returncode == 1 and said in done.stderr and done.stderr.endswith(b"\ndevice fault\n") and not done.stdout
+    yield "none of them leaves a table", not os.path.exists(file[1])
+    control = os.path.join(folder, "left")
+    with contextlib.closing(socket.socket(socket.AF_UNIX)) as left:
+        left.bind(control)
+    process, _ = servers.serve(tenants, 2, options=("--control", control, *file))
+    yield "what a killed server left at --control is replaced before a table is made", stop(control)[0].returncode == 0 and process.wait(END * servers.SLOWER) == 0 and os.path.exists(file[1])
+    process.stdout.close()
+
+
+def out_of_threads(folder):
+    """A server that can't start a thread says so, and what to do."""
+    if not servers.can_be(OTHER):
+        return
+    os.chmod(folder, 0o755)
+    for most in (1, 4):
+        done = subprocess.run([servers.HANDLED, "serve"], input=tenants(*servers.free_ports(2)), capture_output=True, timeout=60 * servers.SLOWER, check=False,
+                              user=OTHER, group=OTHER, extra_groups=[], preexec_fn=lambda: resource.setrlimit(resource.RLIMIT_NPROC, (most, most)))
+        said = done.stderr.splitlines()
+        yield "no more than %d threads" % most, done.returncode == 1 and said[-2:-1] == [THREADS] and said[-1] == b"device fault"
 
 
 def busy_end(folder):
@@ -516,7 +552,7 @@ def behind_a_proxy(folder):
 
 def main():
     with tempfile.TemporaryDirectory() as folder:
-        return servers.tally(case for part in (watched, rotated, taken, together, behind_a_proxy, busy_end, failing, full) for case in part(folder))
+        return servers.tally(case for part in (watched, rotated, taken, together, behind_a_proxy, busy_end, failing, full, out_of_threads) for case in part(folder))
 
 
 sys.exit(main())

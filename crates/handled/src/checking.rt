@@ -29,7 +29,7 @@ pub fn check_text(rt: &HostRuntime, text: &str) -> Result<u8, Fault> {
 /// Says on standard error why no server can start with an accepted text, or which ports can't be had now; answers the exit status.
 pub fn check_ports(rt: &HostRuntime, text: &str, addresses: &[IpAddr]) -> Result<u8, Fault> {
     let tenants = tenants_of(rt.alloc(), text)?;
-    if say_unservable(rt, &tenants) {
+    if say_unservable(rt, text, &tenants) {
         return Ok(FAULTY);
     }
     Ok(say_unavailable(rt, rt.alloc(), &tenants, addresses)?)

@@ -10,6 +10,7 @@
 mod bounds;
 mod checking;
 mod descriptors;
+mod exporting;
 mod fault;
 mod guarding;
 mod notices;
@@ -23,17 +24,15 @@ mod supervising;
 mod texts;
 
 use checking::{check_ports, check_text};
+use exporting::export_table;
 use fault::ProgramFault;
 use hdl_cachedrows::LIMIT_DEFAULT;
 use hdl_host::{Health, Setting};
-use hdl_programs::{Fault, status_of_words, tenants_of};
+use hdl_programs::Fault;
 use hdl_server_options::{
-    BoundWord, ClusterOptions, ExportOptions, Invocation, ServeOptions, TableFile, read_options,
+    BoundWord, ClusterOptions, Invocation, ServeOptions, TableFile, read_options,
 };
-use hdl_tables::{
-    Export, FileWork, TabledFault, copy_table, empty_table, has_named, is_new, not_there,
-    over_file, restore_table,
-};
+use hdl_tables::{FileWork, TabledFault, copy_table, empty_table, over_file, restore_table};
 use notices::TableNotices;
 use opening::{open_planned, place_of};
 use plan::{Plan, Planned, plan_of, setting_of};
@@ -46,7 +45,7 @@ use std::process::ExitCode;
 use std::random::RandomSource;
 use std::rt::Clock;
 use std::sync::Arc;
-use std::thread::Threads;
+use std::thread::{self, Threads};
 use supervising::{reopen, stop};
 use texts::{read_text, text_of};
 
@@ -183,49 +182,6 @@ fn over_unserved<R: Threads + Drop, W: FileWork>(
     done
 }
 
-/// Writes the table in the file as a tenants text, or the part of the publisher of this name, and answers the exit status. The file is opened as
-/// a server's start opens it, but none is made.
-fn export_file<R: Threads + Drop>(
-    machine: R,
-    rt: &HostRuntime,
-    options: ExportOptions,
-) -> Result<u8, ProgramFault> {
-    let ExportOptions {
-        table,
-        text,
-        publisher,
-        to,
-    } = options;
-    let text = text_of(rt, text)?;
-    export_text(machine, rt, &table, text.as_str(), &publisher, &to)
-}
-
-/// Does so with the publishers and prefixes of this text.
-fn export_text<R: Threads + Drop>(
-    machine: R,
-    rt: &HostRuntime,
-    file: &TableFile,
-    text: &str,
-    publisher: &Option<String>,
-    to: &Option<String>,
-) -> Result<u8, ProgramFault> {
-    let path = file.path.as_str();
-    if is_new(rt, path) {
-        return Err(ProgramFault::from(not_there(rt, path)));
-    }
-    let tenants = tenants_of(rt.alloc(), text)?;
-    if !has_named(rt, &tenants, publisher) {
-        return Ok(status_of_words(false));
-    }
-    let export = Export {
-        tenants,
-        text,
-        publisher,
-        to,
-    };
-    Ok(over_unserved(machine, rt, file, export)?)
-}
-
 /// Runs the script on standard input over the table in the file, and answers the exit status.
 fn replay_file<R: Threads + Drop>(
     machine: R,
@@ -262,11 +218,27 @@ fn restore_file(rt: &HostRuntime, from: &str, table: &str) -> Result<u8, Program
     Ok(0)
 }
 
-/// Says on standard error what to do about a faulty tenants text. The fault line is the last one.
-fn with_advice(rt: &HostRuntime, fault: ProgramFault) -> ProgramFault {
+/// Whether a thread can be started.
+fn has_thread<R: Threads>(machine: &R) -> bool {
+    match thread::spawn(machine, || {}) {
+        Ok(thread) => {
+            thread.join(machine);
+            true
+        }
+        Err(_) => false,
+    }
+}
+
+/// Says on standard error what to do about a faulty tenants text, or a machine that lacks threads. The fault line is the last one.
+fn with_advice<R: Threads>(machine: &R, rt: &HostRuntime, fault: ProgramFault) -> ProgramFault {
     if fault.is_of_text() {
         let _ = eprintln!(rt;
             "the tenants text is refused: `handled check < TEXT` says what is wrong in each line, and what to do"
+        );
+    }
+    if fault.is_of_machine() && !has_thread(machine) {
+        let _ = eprintln!(rt;
+            "threads can't be started, and each lane needs one: raise TasksMax of the service, or `ulimit -u`"
         );
     }
     fault
@@ -288,7 +260,10 @@ fn run<
     match read_options(rt)? {
         Invocation::Ended(status) => Ok(status),
         Invocation::Check { text, addresses } => check_input(rt, text, addresses.as_slice()),
-        Invocation::Export(options) => export_file(*machine, rt, options),
+        Invocation::Export(options) => match export_table(machine, rt, options) {
+            Err(fault) => Err(with_advice(machine, rt, fault)),
+            ended => ended,
+        },
         Invocation::Replay { table: None } => replay_memory::<R>(rt),
         Invocation::Replay { table: Some(file) } => replay_file(*machine, rt, &file),
         Invocation::Copy { from, to } => copy_file(rt, from.as_str(), to.as_str()),
@@ -296,7 +271,7 @@ fn run<
         Invocation::Stop { control } => Ok(stop(rt, control.as_str())),
         Invocation::Reopen { control } => Ok(reopen(rt, control.as_str())),
         Invocation::Serve(options) => match serve(machine, rt, options) {
-            Err(fault) => Err(with_advice(rt, fault)),
+            Err(fault) => Err(with_advice(machine, rt, fault)),
             ended => ended,
         },
     }

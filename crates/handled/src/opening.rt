@@ -3,7 +3,7 @@
 use crate::fault::ProgramFault;
 use crate::notices::TableNotices;
 use crate::plan::Plan;
-use crate::ports::can_listen;
+use crate::ports::{can_listen, can_take_words};
 use hdl_core::Tenants;
 use hdl_host::{HostFault, Setting};
 use hdl_lastingrows::TableFault;
@@ -16,15 +16,23 @@ use std::net::{Net, TcpListener, TcpStream};
 use std::sync::Arc;
 use std::thread::Threads;
 
-/// Whether each port of a server can be had, if the file of its table is new: a start that fails at a port leaves no new file.
-fn try_ports(
+/// Whether each socket of a server can be had, if the file of its table is new: a start that fails at one leaves no new file.
+fn try_sockets(
     rt: &HostRuntime,
     file: &TableFile,
     tenants: &Tenants,
     setting: &Setting,
 ) -> Result<(), HostFault> {
     if is_new(rt, file.path.as_str()) {
-        can_listen(rt, rt.alloc(), tenants, setting.addresses.as_slice())?;
+        let addresses = setting.addresses.as_slice();
+        can_listen(
+            rt,
+            rt.alloc(),
+            tenants,
+            addresses,
+            setting.supervision.status,
+        )?;
+        can_take_words(rt, &setting.supervision.control)?;
     }
     Ok(())
 }
@@ -91,7 +99,7 @@ pub fn open_planned<
         // a new table would be empty, and a standby would say that no handle is there
         return Err(ProgramFault::from(not_there(rt, path)));
     }
-    try_ports(rt, file, plan.tenants(), plan.setting())?;
+    try_sockets(rt, file, plan.tenants(), plan.setting())?;
     let state = log_state(rt, path)?;
     let table = open_once(*machine, rt, file, plan)?;
     match state {

@@ -11,7 +11,7 @@ use std::net::IpAddr;
 use std::sync::Arc;
 
 /// The exit status if no server can start with the text's publishers, as of a faulty text.
-const UNSERVABLE: u8 = 3;
+pub const UNSERVABLE: u8 = 3;
 
 /// Which tenants are served, and in which setting.
 ///
@@ -116,7 +116,7 @@ pub fn plan_of(
 ) -> Result<Planned, Fault> {
     let mut setting = setting;
     let tenants = tenants_of(rt.alloc(), text)?;
-    if say_unservable(rt, &tenants) {
+    if say_unservable(rt, text, &tenants) {
         return Ok(Planned::Refused(UNSERVABLE));
     }
     match bounds_of(rt.alloc(), words, text, &tenants) {

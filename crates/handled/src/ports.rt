@@ -1,18 +1,22 @@
-//! Whether the ports of a server can be had, before the file of its table is made or the server is started.
+//! Whether the sockets of a server can be had, before the file of its table is made or the server is started.
 
 use hdl_core::Tenants;
 use hdl_host::HostFault;
 use std::alloc::{AllocError, Global};
+use std::fs;
 use std::io::{self, ErrorKind};
 use std::net::{IpAddr, Net, SocketAddr, TcpListener, TcpStream, UdpSocket};
+use std::os::unix::fs::FileTypeExt;
+use std::os::unix::net::{UnixListener, UnixStream};
 
-/// Opens each publisher's port at each of these addresses, by TCP and UDP, and closes all of them: the fault with which a server would end that
-/// opened them now.
+/// Opens each publisher's port at each of these addresses, by TCP and UDP, and that of the status page, if there is one, and closes all of them: the
+/// fault with which a server would end that opened them now.
 pub fn can_listen<R: Net<Listener = TcpListener, Stream = TcpStream>>(
     rt: &R,
     alloc: Global,
     tenants: &Tenants,
     addresses: &[IpAddr],
+    status: Option<SocketAddr>,
 ) -> Result<(), HostFault> {
     // all are open at once, so that a port that is given twice is found
     let mut listeners = Vec::new(alloc);
@@ -33,7 +37,39 @@ pub fn can_listen<R: Net<Listener = TcpListener, Stream = TcpStream>>(
             }
         }
     }
+    if let Some(at) = status {
+        if let Err(e) = TcpListener::bind(rt, at) {
+            return Err(HostFault::Listen(at, e.kind()));
+        }
+    }
     Ok(())
+}
+
+/// Makes a Unix socket at a path, and takes it away. What a killed server left there is taken away by the start; anything else that is there stays.
+fn try_path(rt: &HostRuntime, path: &str) -> io::Result<()> {
+    if let Ok(found) = fs::symlink_metadata(rt, path) {
+        if !found.file_type().is_socket() {
+            return Err(io::Error::from(ErrorKind::AddrInUse));
+        }
+    }
+    match UnixStream::connect(rt, path) {
+        Ok(_) => return Err(io::Error::from(ErrorKind::AddrInUse)),
+        Err(e) if e.kind() == ErrorKind::ConnectionRefused => return Ok(()),
+        Err(_) => {}
+    }
+    drop(UnixListener::bind(rt, path)?);
+    fs::remove_file(rt, path)
+}
+
+/// Makes the socket at which a server takes words, if one is named, and takes it away: the fault with which a server would end that made it now.
+pub fn can_take_words(rt: &HostRuntime, control: &Option<String>) -> Result<(), HostFault> {
+    let Some(path) = control else {
+        return Ok(());
+    };
+    match try_path(rt, path.as_str()) {
+        Ok(()) => Ok(()),
+        Err(e) => Err(HostFault::Control(e.kind())),
+    }
 }
 
 /// The name of an earlier publisher that has this port.
@@ -65,10 +101,24 @@ fn say_shared(rt: &HostRuntime, tenants: &Tenants) -> bool {
     is_shared
 }
 
-/// Says on standard error why no server can start with these tenants: there is no publisher, or some have one port. Answers whether that is so.
-pub fn say_unservable(rt: &HostRuntime, tenants: &Tenants) -> bool {
+/// Says on standard error that a text is empty, if it is, as a command's input is that was given none. Answers whether that is so.
+pub fn say_empty(rt: &HostRuntime, text: &str) -> bool {
+    if !text.is_empty() {
+        return false;
+    }
+    let _ = eprintln!(rt;
+        "tenants: the text is empty: end the command with < TEXT, or name the file of the text by --text"
+    );
+    true
+}
+
+/// Says on standard error why no server can start with the tenants of this text: there is no publisher, or some have one port. Answers whether that is so.
+pub fn say_unservable(rt: &HostRuntime, text: &str, tenants: &Tenants) -> bool {
     if tenants.publishers() > 0 {
         return say_shared(rt, tenants);
+    }
+    if say_empty(rt, text) {
+        return true;
     }
     let _ = eprintln!(rt;
         "tenants: the text has no publisher: give each a line `publisher NAME LANES PORT`, and each of its prefixes a line `prefix PREFIX NAME`; `hdl init PREFIX > WORDS`, then `hdl tenants < WORDS` makes such a text"

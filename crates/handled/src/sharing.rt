@@ -3,14 +3,18 @@
 use crate::descriptors::say_descriptors;
 use crate::fault::ProgramFault;
 use crate::guarding::TableGuard;
+use crate::health_of as new_health;
 use crate::notices::{Notice, TableNotices, begins_line, say_ends};
-use crate::plan::Plan;
+use crate::plan::{Plan, UNSERVABLE};
+use crate::ports::say_empty;
 use crate::serving::{ending_of, health_of};
+use hdl_core::Tenants;
 use hdl_guardedrows::GuardedRows;
-use hdl_host::{Sharing, host_shared};
-use hdl_programs::Fault;
+use hdl_host::{Sharing, host_shared, read_shared};
+use hdl_programs::{Fault, status_of_words, tenants_of};
 use hdl_server_options::ClusterOptions;
-use hdl_shared::{Beside, Standing, prepare};
+use hdl_shared::{Beside, SharedRows, Standing, prepare};
+use hdl_tables::{ExportText, has_named};
 use std::alloc::AllocError;
 use std::fs::Files;
 use std::net::{Net, TcpListener, TcpStream};
@@ -22,15 +26,11 @@ use std::thread::Threads;
 /// The exit status of a server that has parted from the others: a service file starts it anew.
 const PARTED: u8 = 6;
 
+/// The exit status of an export, if there is no table.
+const NO_TABLE: u8 = 4;
+
 /// What a server has beside others, by these options.
-fn beside_of<
-    R: Net<Listener = TcpListener, Stream = TcpStream>
-        + Clock
-        + Eprint
-        + RandomSource
-        + Copy
-        + Drop,
->(
+fn beside_of<R: Net<Stream = TcpStream> + Clock + Eprint + RandomSource + Copy + Drop>(
     machine: &R,
     rt: &HostRuntime,
     cluster: ClusterOptions,
@@ -99,4 +99,48 @@ pub fn serve_cluster<
     }
     say_ends(rt, &health, ending.is_asked());
     Ok(0)
+}
+
+/// The table that the servers of a cluster have. None was put there, if it has no changes.
+fn read_cluster<R: Net<Stream = TcpStream> + Clock + Eprint + RandomSource + Copy + Drop>(
+    machine: &R,
+    rt: &HostRuntime,
+    cluster: ClusterOptions,
+    tenants: Tenants,
+) -> Result<(SharedRows<TableNotices>, u64), ProgramFault> {
+    let standing = standing(rt).map_err(Fault::from)?;
+    let notices = TableNotices::new(rt, new_health(rt)?);
+    let Beside { rows, news, keeper } = beside_of(machine, rt, cluster, &standing, notices)?;
+    let theirs = Arc::try_clone(&standing).map_err(Fault::from)?;
+    let sharing = Sharing {
+        news,
+        keeper,
+        standing: theirs,
+    };
+    let rows = read_shared(rt.alloc(), rows, tenants, sharing)?;
+    Ok((rows, standing.changes()))
+}
+
+/// Writes the table that the servers of a cluster have as a tenants text, and answers the exit status.
+pub fn export_cluster<R: Net<Stream = TcpStream> + Clock + Eprint + RandomSource + Copy + Drop>(
+    machine: &R,
+    rt: &HostRuntime,
+    cluster: ClusterOptions,
+    text: ExportText<'_>,
+) -> Result<u8, ProgramFault> {
+    if say_empty(rt, text.text) {
+        return Ok(UNSERVABLE);
+    }
+    let tenants = tenants_of(rt.alloc(), text.text)?;
+    if !has_named(rt, &tenants, text.publisher) {
+        return Ok(status_of_words(false));
+    }
+    let (mut rows, changes) = read_cluster(machine, rt, cluster, tenants)?;
+    if changes == 0 {
+        let _ = eprintln!(rt;
+            "cluster: these members have no table of this name: check --cluster and --cluster-name"
+        );
+        return Ok(NO_TABLE);
+    }
+    Ok(text.put(rt, &mut rows)?)
 }

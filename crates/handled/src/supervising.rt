@@ -44,14 +44,33 @@ fn say_at(rt: &HostRuntime, control: &str, word: &[u8]) -> io::Result<usize> {
     }
 }
 
+/// What can be done where no server takes the word for a reason of this kind.
+fn way_on(kind: ErrorKind) -> &'static str {
+    match kind {
+        ErrorKind::PermissionDenied => {
+            "only root and the server's user may: run the command as one of them"
+        }
+        ErrorKind::ConnectionRefused => {
+            "its server was killed, and the next start replaces the socket; or the path is that of a file"
+        }
+        _ => {
+            "name the path of a running server's --control; one that is still starting has none yet: wait for its lines"
+        }
+    }
+}
+
+/// Says on standard error that no server takes the word.
+fn say_no_server(rt: &HostRuntime, word: &str, control: &str, error: io::Error) {
+    let way = way_on(error.kind());
+    let _ = eprintln!(rt; "{word}: no server answers at {control}: {error}: {way}");
+}
+
 /// Ends the server that takes the word at this socket, and answers the exit status.
 pub fn stop(rt: &HostRuntime, control: &str) -> u8 {
     match say_at(rt, control, STOP) {
         Ok(_) => 0,
         Err(e) => {
-            let _ = eprintln!(rt;
-                "stop: no server at {control}: {e}: name the path of a running server's --control"
-            );
+            say_no_server(rt, "stop", control, e);
             Fault::Device.status()
         }
     }
@@ -66,11 +85,7 @@ pub fn reopen(rt: &HostRuntime, control: &str) -> u8 {
                 "reopen: the server at {control} writes its log into no file: start it with --log FILE"
             );
         }
-        Err(e) => {
-            let _ = eprintln!(rt;
-                "reopen: no server at {control}: {e}: name the path of a running server's --control"
-            );
-        }
+        Err(e) => say_no_server(rt, "reopen", control, e),
     }
     Fault::Device.status()
 }

@@ -10,7 +10,7 @@ use hdl_boundedrows::{Bound, BoundedRows};
 use hdl_core::{OpenFault, Owing, Service, Tenants};
 use hdl_listeners::{
     HostFault, Limits, PublisherSockets, Setting, Supervised, Watched, join_all, or_device,
-    places_of, start, supervise,
+    places_of, remove_socket, start, supervise,
 };
 use hdl_programs::{Fault, put_all, tenants_of};
 use hdl_queue::WriteQueue;
@@ -20,11 +20,11 @@ use hdl_sockets::{Crowd, MachineClock, Part, Patience, Sleep};
 use std::alloc::Global;
 use std::fs::Files;
 use std::io::Write;
+use std::mem;
 use std::net::{Net, TcpListener, TcpStream};
 use std::random::RandomSource;
 use std::rt::Clock;
 use std::thread::{JoinHandle, Threads};
-use std::{fs, mem};
 
 /// How many items a lane's ring has room for, each way.
 const RING: usize = 16;
@@ -236,7 +236,7 @@ pub(crate) fn tell_and_serve<
 }
 
 /// Why no service was opened, as the fault of a run.
-fn opening_fault(fault: OpenFault) -> Fault {
+pub(crate) fn opening_fault(fault: OpenFault) -> Fault {
     match fault {
         OpenFault::Memory => Fault::NoMemory,
         OpenFault::Store => Fault::StoreRefused,
@@ -340,7 +340,7 @@ fn resume_and_serve<
 pub(crate) fn leave_control<R: Files>(rt: &R, path: &Option<String>) {
     if let Some(path) = path {
         // a socket that stays is taken away by the next start
-        let _ = fs::remove_file(rt, path.as_str());
+        let _ = remove_socket(rt, path.as_str());
     }
 }
 

@@ -33,4 +33,4 @@ pub use hdl_listeners::{
 pub use hdl_sockets::Ending;
 pub use hdl_telemetry::{FileChange, FileWatch, Health, Log, LogFile, Notice};
 pub use hosting::{host, host_resumed, host_tenants};
-pub use sharing::{Sharing, host_shared};
+pub use sharing::{Sharing, host_shared, read_shared};

@@ -2,9 +2,11 @@
 
 ghost use Rattle.hdl_workers.specs.Ends.{AreDistinct};
 
+use crate::bounds::Notices;
 use crate::hosting::{
-    Limited, Ready, Serving, leave_control, ready_for, resume_within, tell_and_serve,
+    Limited, Ready, Serving, leave_control, opening_fault, ready_for, resume_within, tell_and_serve,
 };
+use hdl_boundedrows::BoundedRows;
 use hdl_core::{LetIn, Owing, Rows, Service, Tenants};
 use hdl_listeners::{HostFault, Setting, or_device};
 use hdl_programs::Fault;
@@ -125,6 +127,22 @@ fn load<R: Net<Stream = TcpStream> + Clock + Eprint + Drop, T: Owing + Drop>(
     Ok(())
 }
 
+/// The table that the servers of a cluster have, read into one that is empty so far. Nothing is put into the cluster.
+pub fn read_shared<R: Net<Stream = TcpStream> + Clock + Eprint + Drop, T: Owing + Drop>(
+    alloc: Global,
+    rows: T,
+    tenants: Tenants,
+    mut sharing: Sharing<R>,
+) -> Result<T, HostFault> {
+    match Service::resume(alloc, tenants, rows) {
+        Ok(mut service) => {
+            load(&mut service, &mut sharing.news, &mut sharing.keeper)?;
+            Ok(service.into_rows())
+        }
+        Err(fault) => Err(HostFault::from(opening_fault(fault))),
+    }
+}
+
 /// What a thread beside the one that serves does.
 trait Keeping {
     fn keep(self);
@@ -155,6 +173,50 @@ fn start_keeper<R: Threads, K: Keeping + Send + Drop + 'static>(
     }
 }
 
+/// Opens the service over the table that the others have. With it comes what keeps it beside them.
+fn open_shared<R: Net<Stream = TcpStream> + Clock + Eprint + Drop, T: Owing + Drop>(
+    alloc: Global,
+    rows: T,
+    tenants: Tenants,
+    limited: Limited,
+    mut sharing: Sharing<R>,
+) -> Result<(SharedService<BoundedRows<T, Notices>>, Keeper<R>), HostFault> {
+    sharing.keeper.open_all(tenants.opening())?;
+    let mut service = resume_within(alloc, rows, limited, tenants)?;
+    load(&mut service, &mut sharing.news, &mut sharing.keeper)?;
+    let Sharing {
+        news,
+        keeper,
+        standing,
+    } = sharing;
+    let service = SharedService {
+        service,
+        news,
+        standing,
+    };
+    Ok((service, keeper))
+}
+
+/// Starts the thread that keeps the server beside the others, tells where it listens, and serves.
+///
+/// It is generic over what serves and what keeps it beside the others: each way out of a function drops what it owns.
+fn keep_and_serve<
+    R: Threads + Clock + RandomSource + Files + Eprint + Copy + Send + Drop + 'static,
+    S: Serving + Drop,
+    K: Keeping + Send + Drop + 'static,
+    W: Write,
+>(
+    rt: &R,
+    alloc: Global,
+    (service, keeping): (S, K),
+    ready: Ready,
+    output: &mut W,
+) -> Result<(), Fault> {
+    start_keeper(rt, keeping)?;
+    drop(tell_and_serve(rt, alloc, service, ready, output)?);
+    Ok(())
+}
+
 /// Opens the service over the table that the others have, tells where it listens, and serves.
 fn share_and_serve<
     R: Net<Listener = TcpListener, Stream = TcpStream>
@@ -174,28 +236,14 @@ fn share_and_serve<
     alloc: Global,
     rows: T,
     tenants: Tenants,
-    (prepared, sharing, ending): ((Ready, Limited), Sharing<R>, Arc<Ending>),
+    ((ready, limited), sharing, ending): ((Ready, Limited), Sharing<R>, Arc<Ending>),
     output: &mut W,
 ) -> Result<(), HostFault> {
-    let (ready, limited) = prepared;
-    let Sharing {
-        mut news,
-        mut keeper,
-        standing,
-    } = sharing;
-    keeper.open_all(tenants.opening())?;
-    let mut service = resume_within(alloc, rows, limited, tenants)?;
-    load(&mut service, &mut news, &mut keeper)?;
     let bell = or_device(ready.opened.sleep.bell())?;
     let waking = Awakening { bell, ending };
-    start_keeper(rt, TellingKeeper { keeper, waking })?;
-    let service = SharedService {
-        service,
-        news,
-        standing,
-    };
-    drop(tell_and_serve(rt, alloc, service, ready, output)?);
-    Ok(())
+    let (service, keeper) = open_shared(alloc, rows, tenants, limited, sharing)?;
+    let keeping = TellingKeeper { keeper, waking };
+    Ok(keep_and_serve(rt, alloc, (service, keeping), ready, output)?)
 }
 
 /// Serves the tenants over a table that other servers have too, which is empty so far, as [`host_tenants`](crate::host_tenants) does. First the handles that were never opened are put

@@ -8,7 +8,7 @@ use std::fs;
 use std::fs::{Files, Permissions};
 use std::io::{self, ErrorKind};
 use std::net::Net;
-use std::os::unix::fs::PermissionsExt;
+use std::os::unix::fs::{FileTypeExt, PermissionsExt};
 use std::os::unix::net::{UnixListener, UnixStream};
 use std::sync::Arc;
 
@@ -23,11 +23,19 @@ const NO_LOG: &[u8] = b"no log\n";
 /// Only the program's own user may connect.
 const MODE: u32 = 0o600;
 
+/// Removes the socket at a path. What isn't a socket stays, such as a table that was named by mistake: then the path is in use.
+pub fn remove_socket<R: Files>(rt: &R, path: &str) -> io::Result<()> {
+    if !fs::symlink_metadata(rt, path)?.file_type().is_socket() {
+        return Err(io::Error::from(ErrorKind::AddrInUse));
+    }
+    fs::remove_file(rt, path)
+}
+
 /// Listens at a path. First removes what a killed server left there: a socket at which no process listens.
 pub fn listen<R: Files + Net>(rt: &R, path: &str) -> io::Result<UnixListener> {
     match UnixStream::connect(rt, path) {
         Ok(_) => return Err(io::Error::from(ErrorKind::AddrInUse)),
-        Err(e) if e.kind() == ErrorKind::ConnectionRefused => fs::remove_file(rt, path)?,
+        Err(e) if e.kind() == ErrorKind::ConnectionRefused => remove_socket(rt, path)?,
         Err(_) => {}
     }
     let listener = UnixListener::bind(rt, path)?;

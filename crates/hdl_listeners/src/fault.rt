@@ -81,10 +81,7 @@ impl fmt::Display for HostFault {
                     Fault::Device
                 )
             }
-            HostFault::Cluster(fault) => write!(
-                f,
-                "cluster: {fault}: `etcdctl endpoint status --cluster` says how its members are"
-            ),
+            HostFault::Cluster(fault) => write!(f, "cluster: {fault}"),
         }
     }
 }

@@ -34,7 +34,7 @@ mod supervision;
 mod telling;
 mod workers;
 
-pub use control::{REOPEN, STOP};
+pub use control::{REOPEN, STOP, remove_socket};
 pub use fault::HostFault;
 pub use listening::{
     AMPLIFY, Limits, PublisherSockets, Setting, descriptors_for, or_device, places_of,
