@@ -38,7 +38,7 @@ MOST = {
     "docs/HDL.md": 1_700,
     "docs/OPERATING.md": 4_000,
     "docs/PAGES.md": 450,
-    "docs/PROMISES.md": 4_150,
+    "docs/PROMISES.md": 4_200,
     "docs/PROTOCOL.md": 3_900,
     "docs/PROXY.md": 3_400,
     "docs/THEOREM.md": 4_500,
