@@ -5,18 +5,18 @@ ghost use Rattle.hdl_rows.specs.Table.{no_rows};
 ghost use Rattle.hdl_workers.specs.Ends.{AreDistinct};
 
 use crate::bounds::Notices;
-use crate::watching::{WatchingClock, Watchman, watchman_of};
+use crate::resource_monitor::{MonitoringClock, ResourceMonitor, resource_monitor_of};
 use hdl_boundedrows::{Bound, BoundedRows};
 use hdl_core::{OpenFault, Owing, Service, Tenants};
 use hdl_listeners::{
-    HostFault, Limits, PublisherSockets, Setting, Supervised, Watched, join_all, or_device,
-    places_of, remove_socket, start, supervise,
+    ActiveMonitoring, HostFault, Limits, MonitoringSockets, PublisherSockets, ServerConfig,
+    join_workers, open_monitoring, open_publishers, or_device_fault, remove_socket, start_workers,
 };
 use hdl_programs::{Fault, put_all, tenants_of};
 use hdl_queue::WriteQueue;
 use hdl_rows::PlainRows;
-use hdl_serve::{Clock as Pauses, LaneEnds, WorkerEnd, WorkerSide, lanes_of, serve};
-use hdl_sockets::{Crowd, MachineClock, Part, Patience, Sleep};
+use hdl_serve::{Clock as LoopClock, LaneEnds, WorkerEnd, WorkerSide, lanes_of, serve};
+use hdl_sockets::{CallTimeouts, IdlePoll, MachineClock, OverflowLane, ThreadRole};
 use std::alloc::Global;
 use std::fs::Files;
 use std::io::Write;
@@ -33,29 +33,29 @@ const RING: usize = 16;
 /// watched.
 #[derive(Drop)]
 pub(crate) struct Opened {
-    pub(crate) sleep: Sleep,
-    places: Vec<PublisherSockets<Crowd>>,
+    pub(crate) idle_poll: IdlePoll,
+    publishers: Vec<PublisherSockets<OverflowLane>>,
     begins: String,
     lines: String,
-    supervised: Supervised,
+    monitoring_sockets: MonitoringSockets,
 }
 
 /// What is there before anything is served: every lane, the queue of lanes whose writes wait, every socket, who looks at the table's file, and how many turns each worker and the
 /// service have.
 #[derive(Drop)]
-pub(crate) struct Ready {
+pub(crate) struct PreparedServer {
     ends: Vec<LaneEnds>,
     sides: Vec<WorkerSide>,
     queue: WriteQueue,
     pub(crate) opened: Opened,
-    watchman: Watchman,
+    monitor: ResourceMonitor,
     turns: u64,
     ghost distinct: { AreDistinct ends.items },
 }
 
 /// The bounds of publishers, who hears that one is reached, and whether changes are taken.
 #[derive(Drop)]
-pub(crate) struct Limited {
+pub(crate) struct ChangeLimits {
     bounds: Vec<Bound>,
     notices: Notices,
     takes_changes: bool,
@@ -66,72 +66,77 @@ fn open_sockets<R: Net<Listener = TcpListener, Stream = TcpStream> + Clock + Fil
     rt: &R,
     alloc: Global,
     tenants: &Tenants,
-    setting: &mut Setting,
+    config: &mut ServerConfig,
 ) -> Result<Opened, HostFault> {
-    let most = Patience::of(setting.limits.turns).events;
-    let sleep = or_device(Sleep::new(rt, alloc, most))?;
-    let (places, lines) = places_of(rt, alloc, tenants, setting)?;
-    let supervised = supervise(rt, alloc, &mut setting.supervision, places.as_slice())?;
-    let begins = mem::replace(&mut setting.supervision.begins, String::new(alloc));
+    let most = CallTimeouts::of(config.limits.turns).events;
+    let idle_poll = or_device_fault(IdlePoll::new(rt, alloc, most))?;
+    let (publishers, lines) = open_publishers(rt, alloc, tenants, config)?;
+    let monitoring_sockets = open_monitoring(
+        rt,
+        alloc,
+        &mut config.monitoring,
+        publishers.as_slice(),
+    )?;
+    let begins = mem::replace(&mut config.monitoring.begins, String::new(alloc));
     Ok(Opened {
-        sleep,
-        places,
+        idle_poll,
+        publishers,
         begins,
         lines,
-        supervised,
+        monitoring_sockets,
     })
 }
 
 /// Makes the lanes of the tenants and listens for each publisher.
-fn ready_in<R: Net<Listener = TcpListener, Stream = TcpStream> + Clock + Files>(
+fn prepare_lanes<R: Net<Listener = TcpListener, Stream = TcpStream> + Clock + Files>(
     rt: &R,
     alloc: Global,
     tenants: &Tenants,
-    setting: &mut Setting,
-) -> Result<Ready, HostFault> {
+    config: &mut ServerConfig,
+) -> Result<PreparedServer, HostFault> {
     let (ends, sides) = lanes_of(alloc, tenants.lanes(), RING)?;
     let queue = WriteQueue::with_capacity(alloc, ends.len())?;
-    let opened = open_sockets(rt, alloc, tenants, setting)?;
-    let watchman = watchman_of(&mut setting.supervision)?;
-    Ok(Ready {
+    let opened = open_sockets(rt, alloc, tenants, config)?;
+    let monitor = resource_monitor_of(&mut config.monitoring)?;
+    Ok(PreparedServer {
         ends,
         sides,
         queue,
         opened,
-        watchman,
-        turns: setting.limits.turns,
+        monitor,
+        turns: config.limits.turns,
     })
 }
 
 /// Makes the lanes of the tenants and listens for each publisher. With what is ready come the limits of changes, and the path of the socket at which
-/// the word to end is taken: all else of a setting ends here, so that who opens a table owns little.
-pub(crate) fn ready_for<R: Net<Listener = TcpListener, Stream = TcpStream> + Clock + Files>(
+/// the word to end is taken: all else of a configuration ends here, so that who opens a table owns little.
+pub(crate) fn prepare<R: Net<Listener = TcpListener, Stream = TcpStream> + Clock + Files>(
     rt: &R,
     alloc: Global,
     tenants: &Tenants,
-    mut setting: Setting,
-) -> Result<(Ready, Limited, Option<String>), HostFault> {
-    let ready = ready_in(rt, alloc, tenants, &mut setting)?;
-    let Setting {
+    mut config: ServerConfig,
+) -> Result<(PreparedServer, ChangeLimits, Option<String>), HostFault> {
+    let ready = prepare_lanes(rt, alloc, tenants, &mut config)?;
+    let ServerConfig {
         bounds,
         takes_changes,
-        supervision,
+        monitoring,
         ..
-    } = setting;
-    let limited = Limited {
+    } = config;
+    let change_limits = ChangeLimits {
         bounds,
-        notices: Notices::new(supervision.bounds),
+        notices: Notices::new(monitoring.bounds),
         takes_changes,
     };
-    Ok((ready, limited, supervision.control))
+    Ok((ready, change_limits, monitoring.control))
 }
 
 /// What serves lanes on the calling thread, until each of them ended or the turns are spent.
 ///
 /// What starts and joins the workers is generic over it: proving a function that owns a `Service` costs several times as much.
-pub(crate) trait Serving {
+pub(crate) trait LaneServer {
     /// Serves the lanes, and gives back what served them.
-    fn serve_lanes<C: Pauses>(
+    fn serve_lanes<C: LoopClock>(
         self,
         alloc: Global,
         ends: Vec<LaneEnds>,
@@ -147,8 +152,8 @@ pub(crate) trait Serving {
     }
 }
 
-impl<T: Owing + Drop> Serving for Service<T> {
-    fn serve_lanes<C: Pauses>(
+impl<T: Owing + Drop> LaneServer for Service<T> {
+    fn serve_lanes<C: LoopClock>(
         self,
         alloc: Global,
         ends: Vec<LaneEnds>,
@@ -164,8 +169,8 @@ impl<T: Owing + Drop> Serving for Service<T> {
 #[derive(Drop)]
 struct Started {
     workers: Vec<JoinHandle<WorkerEnd>>,
-    watched: Watched,
-    sleep: Sleep,
+    active: ActiveMonitoring,
+    idle_poll: IdlePoll,
 }
 
 /// Starts what answers at the sockets at which the server is watched, and a worker for each lane.
@@ -177,58 +182,58 @@ fn start_all<R: Threads + Clock + RandomSource + Eprint + Copy + Send + Drop + '
     turns: u64,
 ) -> Result<Started, Fault> {
     let Opened {
-        sleep,
-        places,
-        supervised,
+        idle_poll,
+        publishers,
+        monitoring_sockets,
         ..
     } = opened;
-    let watched = supervised.start(rt, alloc)?;
-    let workers = start(rt, alloc, places, sides, &sleep, turns)?;
+    let active = monitoring_sockets.start(rt, alloc)?;
+    let workers = start_workers(rt, alloc, publishers, sides, &idle_poll, turns)?;
     Ok(Started {
         workers,
-        watched,
-        sleep,
+        active,
+        idle_poll,
     })
 }
 
 /// Starts the workers, serves on this thread, joins them, and gives back what served.
 fn run_workers<
     R: Threads + Clock + RandomSource + Files + Eprint + Copy + Send + Drop + 'static,
-    S: Serving + Drop,
->(rt: &R, alloc: Global, service: S, ready: Ready) -> Result<S, Fault> {
-    let Ready {
+    S: LaneServer + Drop,
+>(rt: &R, alloc: Global, service: S, ready: PreparedServer) -> Result<S, Fault> {
+    let PreparedServer {
         ends,
         sides,
         mut queue,
         opened,
-        watchman,
+        monitor,
         turns,
         ..
     } = ready;
     let Started {
         workers,
-        watched,
-        sleep,
+        active,
+        idle_poll,
     } = start_all(rt, alloc, opened, sides, turns)?;
-    let clock = MachineClock::new(*rt, Part::Serves(sleep));
-    let mut clock = WatchingClock::new(*rt, clock, watchman);
+    let clock = MachineClock::new(*rt, ThreadRole::Serving(idle_poll));
+    let mut clock = MonitoringClock::new(*rt, clock, monitor);
     let service = service.serve_lanes(alloc, ends, &mut clock, &mut queue, turns);
     let joined = if service.is_whole() {
-        join_all(rt, workers, &watched.ending)
+        join_workers(rt, workers, &active.shutdown)
     } else {
         Ok(())
     };
-    watched.leave(rt);
+    active.flush(rt);
     joined?;
     Ok(service)
 }
 
 /// Says that serving begins, tells where it listens, serves, and gives back what served.
-pub(crate) fn tell_and_serve<
+pub(crate) fn announce_and_serve<
     R: Threads + Clock + RandomSource + Files + Eprint + Copy + Send + Drop + 'static,
-    S: Serving + Drop,
+    S: LaneServer + Drop,
     W: Write,
->(rt: &R, alloc: Global, service: S, ready: Ready, output: &mut W) -> Result<S, Fault> {
+>(rt: &R, alloc: Global, service: S, ready: PreparedServer, output: &mut W) -> Result<S, Fault> {
     let begins = ready.opened.begins.as_str();
     let _ = eprint!(rt; "{begins}");
     put_all(output, ready.opened.lines.as_bytes())?;
@@ -244,7 +249,7 @@ pub(crate) fn opening_fault(fault: OpenFault) -> Fault {
 }
 
 /// The service, which takes changes or none.
-fn taking<T: Owing + Drop>(service: Service<T>, takes_changes: bool) -> Service<T> {
+fn with_changes<T: Owing + Drop>(service: Service<T>, takes_changes: bool) -> Service<T> {
     if takes_changes {
         service
     } else {
@@ -256,21 +261,21 @@ fn taking<T: Owing + Drop>(service: Service<T>, takes_changes: bool) -> Service<
 fn open_within<T: Owing + Drop>(
     alloc: Global,
     rows: T,
-    limited: Limited,
+    change_limits: ChangeLimits,
     tenants: Tenants,
 ) -> Result<Service<BoundedRows<T, Notices>>, Fault>
     requires empty { T.content rows ≡ no_rows }
 {
-    let Limited {
+    let ChangeLimits {
         bounds,
         notices,
         takes_changes,
-    } = limited;
+    } = change_limits;
     let Ok(rows) = BoundedRows::new(alloc, rows, bounds, notices) else {
         return Err(Fault::StoreRefused);
     };
     match Service::open(alloc, tenants, rows) {
-        Ok(service) => Ok(taking(service, takes_changes)),
+        Ok(service) => Ok(with_changes(service, takes_changes)),
         Err(fault) => Err(opening_fault(fault)),
     }
 }
@@ -279,19 +284,19 @@ fn open_within<T: Owing + Drop>(
 pub(crate) fn resume_within<T: Owing + Drop>(
     alloc: Global,
     rows: T,
-    limited: Limited,
+    change_limits: ChangeLimits,
     tenants: Tenants,
 ) -> Result<Service<BoundedRows<T, Notices>>, Fault> {
-    let Limited {
+    let ChangeLimits {
         bounds,
         notices,
         takes_changes,
-    } = limited;
+    } = change_limits;
     let Ok(rows) = BoundedRows::new(alloc, rows, bounds, notices) else {
         return Err(Fault::StoreRefused);
     };
     match Service::resume(alloc, tenants, rows) {
-        Ok(service) => Ok(taking(service, takes_changes)),
+        Ok(service) => Ok(with_changes(service, takes_changes)),
         Err(fault) => Err(opening_fault(fault)),
     }
 }
@@ -306,14 +311,14 @@ fn open_and_serve<
     alloc: Global,
     rows: T,
     tenants: Tenants,
-    prepared: (Ready, Limited),
+    prepared: (PreparedServer, ChangeLimits),
     output: &mut W,
 ) -> Result<(), Fault>
     requires empty { T.content rows ≡ no_rows }
 {
-    let (ready, limited) = prepared;
-    let service = open_within(alloc, rows, limited, tenants)?;
-    drop(tell_and_serve(rt, alloc, service, ready, output)?);
+    let (ready, change_limits) = prepared;
+    let service = open_within(alloc, rows, change_limits, tenants)?;
+    drop(announce_and_serve(rt, alloc, service, ready, output)?);
     Ok(())
 }
 
@@ -327,24 +332,24 @@ fn resume_and_serve<
     alloc: Global,
     rows: T,
     tenants: Tenants,
-    prepared: (Ready, Limited),
+    prepared: (PreparedServer, ChangeLimits),
     output: &mut W,
 ) -> Result<T, Fault> {
-    let (ready, limited) = prepared;
-    let service = resume_within(alloc, rows, limited, tenants)?;
-    let service = tell_and_serve(rt, alloc, service, ready, output)?;
+    let (ready, change_limits) = prepared;
+    let service = resume_within(alloc, rows, change_limits, tenants)?;
+    let service = announce_and_serve(rt, alloc, service, ready, output)?;
     Ok(service.into_rows().into_rows())
 }
 
 /// Takes the socket away at which the word to end was taken.
-pub(crate) fn leave_control<R: Files>(rt: &R, path: &Option<String>) {
+pub(crate) fn remove_control_socket<R: Files>(rt: &R, path: &Option<String>) {
     if let Some(path) = path {
         // a socket that stays is taken away by the next start
         let _ = remove_socket(rt, path.as_str());
     }
 }
 
-/// Serves the tenants over an empty table within the bounds of the setting, until each worker ended or the turns are spent. What begins is said and the lines that
+/// Serves the tenants over an empty table within the bounds of the configuration, until each worker ended or the turns are spent. What begins is said and the lines that
 /// tell where are written once all sockets listen, and before a worker starts.
 ///
 /// Refusals: memory, the table's refusal of an opening row, `Listen` where a port can't be had at one of the addresses, and `Device` where
@@ -367,14 +372,14 @@ pub fn host_tenants<
     alloc: Global,
     rows: T,
     tenants: Tenants,
-    setting: Setting,
+    config: ServerConfig,
     output: &mut W,
 ) -> Result<(), HostFault>
     requires empty { T.content rows ≡ no_rows }
 {
-    let (ready, limited, control) = ready_for(rt, alloc, &tenants, setting)?;
-    let served = open_and_serve(rt, alloc, rows, tenants, (ready, limited), output);
-    leave_control(rt, &control);
+    let (ready, change_limits, control) = prepare(rt, alloc, &tenants, config)?;
+    let served = open_and_serve(rt, alloc, rows, tenants, (ready, change_limits), output);
+    remove_control_socket(rt, &control);
     Ok(served?)
 }
 
@@ -397,12 +402,12 @@ pub fn host_resumed<
     alloc: Global,
     rows: T,
     tenants: Tenants,
-    setting: Setting,
+    config: ServerConfig,
     output: &mut W,
 ) -> Result<T, HostFault> {
-    let (ready, limited, control) = ready_for(rt, alloc, &tenants, setting)?;
-    let served = resume_and_serve(rt, alloc, rows, tenants, (ready, limited), output);
-    leave_control(rt, &control);
+    let (ready, change_limits, control) = prepare(rt, alloc, &tenants, config)?;
+    let served = resume_and_serve(rt, alloc, rows, tenants, (ready, change_limits), output);
+    remove_control_socket(rt, &control);
     Ok(served?)
 }
 
@@ -431,8 +436,8 @@ fn host_text<
     requires empty { T.content rows ≡ no_rows }
 {
     let tenants = tenants_of(alloc, text)?;
-    let setting = Setting::on_loopback(alloc, limits)?;
-    host_tenants(rt, alloc, rows, tenants, setting, output)
+    let config = ServerConfig::on_loopback(alloc, limits)?;
+    host_tenants(rt, alloc, rows, tenants, config, output)
 }
 
 /// Serves the tenants of the text over TCP and UDP on 127.0.0.1, over an empty table in memory and within the limits of [`Limits::DEFAULT`], until each worker

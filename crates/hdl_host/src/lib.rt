@@ -2,12 +2,12 @@
 //!
 //! ```text
 //! a TCP connection  -> SocketDoor    -> stream_worker ─┐ ring ┌─ serve (Service over any table), on the calling thread
-//! many of them      -> SocketCrowd   -> packet_worker ─┤ each │
+//! many of them      -> OverflowDoor  -> packet_worker ─┤ each │
 //! UDP sockets       -> SocketPackets -> packet_worker ─┘      └─
 //!                        a thread for each lane
 //! ```
 //!
-//! [`host_tenants`] listens at each publisher's port and each address of a [`Setting`] by TCP and UDP, starts a worker for each lane, and serves on the thread
+//! [`host_tenants`] listens at each publisher's port and each address of a [`ServerConfig`] by TCP and UDP, starts a worker for each lane, and serves on the thread
 //! that called it. [`host_resumed`] does so over a table that is there already, and gives it back; [`host_shared`] over one that other servers have too; [`host`] takes a text, on loopback. Everything between a door and a table is proved of `hdl_workers`,
 //! `hdl_serve` and `hdl_core`, and the numbers of datagram peers of `hdl_trail`, what a crowd of connections keeps of `hdl_crowd`. The doors, the clock and the random numbers are those of `hdl_sockets`;
 //! `hdl_listeners` opens the sockets and starts the workers. This crate makes the lanes, opens the service over a table within the bounds of its publishers ([`Notices`] hears that one is reached), and serves.
@@ -16,21 +16,21 @@
 //! ```rust
 //! // crates/handled/src/serving.rt
 //! host_tenants(machine, rt.alloc(), rows, tenants, setting, &mut output)?;
-//! say_ends(rt, &health, ending.is_asked());
+//! say_ends(rt, &health, shutdown.is_requested());
 //! ```
 #![tactic(auto)]
 
 mod bounds;
 mod hosting;
+mod resource_monitor;
 mod sharing;
-mod watching;
 
 pub use bounds::{Notices, notices_of};
 pub use hdl_boundedrows::{Amount, Bound};
 pub use hdl_listeners::{
-    AMPLIFY, HostFault, Limits, REOPEN, STOP, Setting, Supervision, descriptors_for,
+    AMPLIFY, HostFault, Limits, Monitoring, REOPEN, STOP, ServerConfig, descriptors_for,
 };
-pub use hdl_sockets::Ending;
+pub use hdl_sockets::ShutdownFlag;
 pub use hdl_telemetry::{FileChange, FileWatch, Health, Log, LogFile, Notice};
 pub use hosting::{host, host_resumed, host_tenants};
 pub use sharing::{Sharing, host_shared, read_shared};

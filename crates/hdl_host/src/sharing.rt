@@ -4,16 +4,17 @@ ghost use Rattle.hdl_workers.specs.Ends.{AreDistinct};
 
 use crate::bounds::Notices;
 use crate::hosting::{
-    Limited, Ready, Serving, leave_control, opening_fault, ready_for, resume_within, tell_and_serve,
+    ChangeLimits, LaneServer, PreparedServer, announce_and_serve, opening_fault, prepare,
+    remove_control_socket, resume_within,
 };
 use hdl_boundedrows::BoundedRows;
 use hdl_core::{LetIn, Owing, Rows, Service, Tenants};
-use hdl_listeners::{HostFault, Setting, or_device};
+use hdl_listeners::{HostFault, ServerConfig, or_device_fault};
 use hdl_programs::Fault;
 use hdl_queue::WriteQueue;
-use hdl_serve::{Clock as Pauses, LaneEnds, News, Served, SharedEnd, serve_shared};
+use hdl_serve::{Clock as LoopClock, LaneEnds, News, Served, SharedEnd, serve_shared};
 use hdl_shared::{EtcdNews, Keeper, ListFault, Standing, Waking};
-use hdl_sockets::{Bell, Ending};
+use hdl_sockets::{LoopWaker, ShutdownFlag};
 use std::alloc::Global;
 use std::fs::Files;
 use std::io::Write;
@@ -40,8 +41,8 @@ struct SharedService<T: Rows + Drop> {
     standing: Arc<Standing>,
 }
 
-impl<T: Owing + Drop> Serving for SharedService<T> {
-    fn serve_lanes<C: Pauses>(
+impl<T: Owing + Drop> LaneServer for SharedService<T> {
+    fn serve_lanes<C: LoopClock>(
         self,
         alloc: Global,
         ends: Vec<LaneEnds>,
@@ -77,18 +78,18 @@ impl<T: Owing + Drop> Serving for SharedService<T> {
 
 /// How the thread that serves is told.
 #[derive(Drop)]
-struct Awakening {
-    bell: Arc<Bell>,
-    ending: Arc<Ending>,
+struct ServerWaker {
+    waker: Arc<LoopWaker>,
+    shutdown: Arc<ShutdownFlag>,
 }
 
-impl Waking for Awakening {
+impl Waking for ServerWaker {
     fn wake(&self) {
-        self.bell.ring();
+        self.waker.wake();
     }
 
     fn end(&self) {
-        self.ending.ask_to_end();
+        self.shutdown.request();
     }
 }
 
@@ -144,30 +145,30 @@ pub fn read_shared<R: Net<Stream = TcpStream> + Clock + Eprint + Drop, T: Owing 
 }
 
 /// What a thread beside the one that serves does.
-trait Keeping {
-    fn keep(self);
+trait BackgroundTask {
+    fn run(self);
 }
 
 /// A keeper, and how it tells the thread that serves.
 #[derive(Drop)]
-struct TellingKeeper<R> {
+struct KeeperTask<R> {
     keeper: Keeper<R>,
-    waking: Awakening,
+    waker: ServerWaker,
 }
 
-impl<R: Net<Stream = TcpStream> + Clock + Eprint + Drop> Keeping for TellingKeeper<R> {
-    fn keep(self) {
-        let TellingKeeper { keeper, waking } = self;
-        keeper.keep(waking);
+impl<R: Net<Stream = TcpStream> + Clock + Eprint + Drop> BackgroundTask for KeeperTask<R> {
+    fn run(self) {
+        let KeeperTask { keeper, waker } = self;
+        keeper.keep(waker);
     }
 }
 
 /// Starts the thread that keeps the server beside the others.
-fn start_keeper<R: Threads, K: Keeping + Send + Drop + 'static>(
+fn start_keeper<R: Threads, K: BackgroundTask + Send + Drop + 'static>(
     rt: &R,
-    keeping: K,
+    task: K,
 ) -> Result<(), Fault> {
-    match thread::spawn(rt, move || keeping.keep()) {
+    match thread::spawn(rt, move || task.run()) {
         Ok(_) => Ok(()),
         Err(_) => Err(Fault::Device),
     }
@@ -178,11 +179,11 @@ fn open_shared<R: Net<Stream = TcpStream> + Clock + Eprint + Drop, T: Owing + Dr
     alloc: Global,
     rows: T,
     tenants: Tenants,
-    limited: Limited,
+    change_limits: ChangeLimits,
     mut sharing: Sharing<R>,
 ) -> Result<(SharedService<BoundedRows<T, Notices>>, Keeper<R>), HostFault> {
     sharing.keeper.open_all(tenants.opening())?;
-    let mut service = resume_within(alloc, rows, limited, tenants)?;
+    let mut service = resume_within(alloc, rows, change_limits, tenants)?;
     load(&mut service, &mut sharing.news, &mut sharing.keeper)?;
     let Sharing {
         news,
@@ -202,18 +203,18 @@ fn open_shared<R: Net<Stream = TcpStream> + Clock + Eprint + Drop, T: Owing + Dr
 /// It is generic over what serves and what keeps it beside the others: each way out of a function drops what it owns.
 fn keep_and_serve<
     R: Threads + Clock + RandomSource + Files + Eprint + Copy + Send + Drop + 'static,
-    S: Serving + Drop,
-    K: Keeping + Send + Drop + 'static,
+    S: LaneServer + Drop,
+    K: BackgroundTask + Send + Drop + 'static,
     W: Write,
 >(
     rt: &R,
     alloc: Global,
-    (service, keeping): (S, K),
-    ready: Ready,
+    (service, task): (S, K),
+    ready: PreparedServer,
     output: &mut W,
 ) -> Result<(), Fault> {
-    start_keeper(rt, keeping)?;
-    drop(tell_and_serve(rt, alloc, service, ready, output)?);
+    start_keeper(rt, task)?;
+    drop(announce_and_serve(rt, alloc, service, ready, output)?);
     Ok(())
 }
 
@@ -236,14 +237,21 @@ fn share_and_serve<
     alloc: Global,
     rows: T,
     tenants: Tenants,
-    ((ready, limited), sharing, ending): ((Ready, Limited), Sharing<R>, Arc<Ending>),
+    ((ready, change_limits), sharing, shutdown): (
+        (PreparedServer, ChangeLimits),
+        Sharing<R>,
+        Arc<ShutdownFlag>,
+    ),
     output: &mut W,
 ) -> Result<(), HostFault> {
-    let bell = or_device(ready.opened.sleep.bell())?;
-    let waking = Awakening { bell, ending };
-    let (service, keeper) = open_shared(alloc, rows, tenants, limited, sharing)?;
-    let keeping = TellingKeeper { keeper, waking };
-    Ok(keep_and_serve(rt, alloc, (service, keeping), ready, output)?)
+    let loop_waker = or_device_fault(ready.opened.idle_poll.waker())?;
+    let waker = ServerWaker {
+        waker: loop_waker,
+        shutdown,
+    };
+    let (service, keeper) = open_shared(alloc, rows, tenants, change_limits, sharing)?;
+    let task = KeeperTask { keeper, waker };
+    Ok(keep_and_serve(rt, alloc, (service, task), ready, output)?)
 }
 
 /// Serves the tenants over a table that other servers have too, which is empty so far, as [`host_tenants`](crate::host_tenants) does. First the handles that were never opened are put
@@ -266,13 +274,13 @@ pub fn host_shared<
     alloc: Global,
     rows: T,
     tenants: Tenants,
-    (setting, sharing): (Setting, Sharing<R>),
+    (config, sharing): (ServerConfig, Sharing<R>),
     output: &mut W,
 ) -> Result<(), HostFault> {
-    let ending = Arc::try_clone(&setting.supervision.ending)?;
-    let (ready, limited, control) = ready_for(rt, alloc, &tenants, setting)?;
-    let shared = ((ready, limited), sharing, ending);
+    let shutdown = Arc::try_clone(&config.monitoring.shutdown)?;
+    let (ready, change_limits, control) = prepare(rt, alloc, &tenants, config)?;
+    let shared = ((ready, change_limits), sharing, shutdown);
     let served = share_and_serve(rt, alloc, rows, tenants, shared, output);
-    leave_control(rt, &control);
+    remove_control_socket(rt, &control);
     served
 }

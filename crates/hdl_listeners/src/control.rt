@@ -1,8 +1,8 @@
 //! The Unix socket at which a server takes the word to end, or to open its log anew.
 
-use crate::guests::{Answer, Desk};
-use hdl_sockets::Ending;
-use hdl_telemetry::Flow;
+use crate::clients::{RequestHandler, Response};
+use hdl_sockets::ShutdownFlag;
+use hdl_telemetry::LogStatus;
 use std::alloc::Global;
 use std::fs;
 use std::fs::{Files, Permissions};
@@ -46,42 +46,42 @@ pub fn listen<R: Files + Net>(rt: &R, path: &str) -> io::Result<UnixListener> {
 /// Takes the words.
 #[derive(Drop)]
 pub struct Control {
-    pub ending: Arc<Ending>,
+    pub shutdown: Arc<ShutdownFlag>,
     /// How the lines of the log go, if that is a file.
-    pub log: Option<Arc<Flow>>,
+    pub log: Option<Arc<LogStatus>>,
 }
 
 impl Control {
     /// Asks for the file of the log to be opened anew, if there is one. Who asks is answered by no octet then.
-    fn reopen(&self, alloc: Global) -> Answer {
+    fn reopen(&self, alloc: Global) -> Response {
         let said = match &self.log {
             Some(log) => {
-                log.ask_anew();
+                log.request_reopen();
                 Ok(Vec::new(alloc))
             }
             None => Vec::from_slice(alloc, NO_LOG),
         };
         match said {
-            Ok(octets) => Answer::Octets(octets),
-            Err(_) => Answer::Nothing,
+            Ok(octets) => Response::Octets(octets),
+            Err(_) => Response::Close,
         }
     }
 }
 
-impl Desk for Control {
+impl RequestHandler for Control {
     /// A client that asked for the end stays connected, and so sees when the program has ended.
-    fn answer(&self, alloc: Global, question: &[u8]) -> Answer {
-        if question == STOP {
-            self.ending.ask_to_end();
-            return Answer::Stays;
+    fn answer(&self, alloc: Global, request: &[u8]) -> Response {
+        if request == STOP {
+            self.shutdown.request();
+            return Response::KeepOpen;
         }
-        if question == REOPEN {
+        if request == REOPEN {
             return self.reopen(alloc);
         }
-        if STOP.starts_with(question) || REOPEN.starts_with(question) {
-            Answer::More
+        if STOP.starts_with(request) || REOPEN.starts_with(request) {
+            Response::NeedMore
         } else {
-            Answer::Nothing
+            Response::Close
         }
     }
 }

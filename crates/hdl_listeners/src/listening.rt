@@ -1,11 +1,14 @@
 //! Listening: the sockets of each publisher, and the lines that tell where they are.
 
 use crate::fault::HostFault;
-use crate::supervision::Supervision;
+use crate::monitoring::Monitoring;
 use hdl_boundedrows::Bound;
 use hdl_programs::Fault;
-use hdl_sockets::{Crowd, Ending, PacketSocket, Patience, Seat, Sockets, Waits, seats_at};
-use hdl_telemetry::Record;
+use hdl_sockets::{
+    CallTimeouts, LaneListener, ListenerConfig, OverflowLane, PacketSocket, ShutdownFlag, Sockets,
+    lane_listeners_at,
+};
+use hdl_telemetry::PublisherTelemetry;
 use hdl_tenants::Tenants;
 use std::alloc::{AllocError, Global};
 use std::io;
@@ -54,7 +57,7 @@ impl Limits {
 
 /// Where a server listens, its limits, the bounds of its publishers, whether it takes changes, and what is reported of it.
 #[derive(Drop)]
-pub struct Setting {
+pub struct ServerConfig {
     /// The addresses at which each publisher's port is opened, by TCP and UDP.
     pub addresses: Vec<IpAddr>,
     pub limits: Limits,
@@ -62,26 +65,26 @@ pub struct Setting {
     pub bounds: Vec<Bound>,
     /// Whether changes are taken. Else each is answered 5, "operation denied".
     pub takes_changes: bool,
-    pub supervision: Supervision,
+    pub monitoring: Monitoring,
 }
 
-impl Setting {
-    /// A setting on 127.0.0.1 alone, with these limits, without bounds, log or status page.
-    pub fn on_loopback(alloc: Global, limits: Limits) -> Result<Setting, AllocError> {
+impl ServerConfig {
+    /// A configuration on 127.0.0.1 alone, with these limits, without bounds, log or status page.
+    pub fn on_loopback(alloc: Global, limits: Limits) -> Result<ServerConfig, AllocError> {
         let mut addresses = Vec::new(alloc);
         addresses.push(IpAddr::V4(Ipv4Addr::LOCALHOST))?;
-        Ok(Setting {
+        Ok(ServerConfig {
             addresses,
             limits,
             bounds: Vec::new(alloc),
             takes_changes: true,
-            supervision: Supervision::none(alloc)?,
+            monitoring: Monitoring::none(alloc)?,
         })
     }
 }
 
 /// The least number of lanes of a publisher that has an overflow lane: two for a connection each, this one, and that of its datagrams.
-const LANES_WITH_CROWD: u16 = 4;
+const LANES_WITH_OVERFLOW: u16 = 4;
 
 /// How many descriptors each lane wants in addition to its crowd, and the program in addition to its lanes.
 const OF_LANE: u64 = 4;
@@ -96,23 +99,23 @@ pub fn descriptors_for(tenants: &Tenants, limits: Limits) -> u64 {
             break;
         };
         sum = sum.saturating_add(OF_LANE.saturating_mul(u64::from(lanes)));
-        if lanes >= LANES_WITH_CROWD {
+        if lanes >= LANES_WITH_OVERFLOW {
             sum = sum.saturating_add(u64::from(limits.crowd));
         }
     }
     sum
 }
 
-/// A publisher's datagram sockets, the seats of its lanes for a connection each, its overflow lane, if it has one, and what is recorded of them all.
+/// A publisher's datagram sockets, the listeners of its lanes for a connection each, its overflow lane, if it has one, and what is recorded of them all.
 ///
-/// What starts the workers is generic over the overflow lane: proving a function that owns a [`Crowd`] costs several times as much.
+/// What starts the workers is generic over the overflow lane: proving a function that owns an [`OverflowLane`] costs several times as much.
 #[derive(Drop)]
 pub struct PublisherSockets<C> {
-    pub seats: Vec<Seat>,
-    pub crowd: Option<C>,
+    pub lane_listeners: Vec<LaneListener>,
+    pub overflow: Option<C>,
     pub sockets: Sockets<PacketSocket>,
-    pub record: Option<Record>,
-    pub ending: Arc<Ending>,
+    pub telemetry: Option<PublisherTelemetry>,
+    pub shutdown: Arc<ShutdownFlag>,
 }
 
 /// What is opened at the addresses of a publisher.
@@ -123,7 +126,7 @@ struct Opened {
 }
 
 /// What the machine doesn't give is a device fault.
-pub fn or_device<T: Drop>(gained: io::Result<T>) -> Result<T, Fault> {
+pub fn or_device_fault<T: Drop>(gained: io::Result<T>) -> Result<T, Fault> {
     match gained {
         Ok(value) => Ok(value),
         Err(_) => Err(Fault::Device),
@@ -142,19 +145,19 @@ fn open_at<R: Net<Listener = TcpListener, Stream = TcpStream>>(
 fn open<R: Net<Listener = TcpListener, Stream = TcpStream>>(
     rt: &R,
     alloc: Global,
-    setting: &Setting,
+    config: &ServerConfig,
     publisher: (&str, u16),
     lines: &mut String,
 ) -> Result<Opened, HostFault> {
     let (name, port) = publisher;
     let mut listeners = Vec::new(alloc);
     let mut sockets = Vec::new(alloc);
-    for address in &setting.addresses {
+    for address in &config.addresses {
         let at = SocketAddr::new(*address, port);
         match open_at(rt, at) {
             Ok((listener, socket)) => {
                 listeners.push(listener)?;
-                let times = setting.limits.times_at(*address);
+                let times = config.limits.times_at(*address);
                 sockets.push(PacketSocket { socket, times })?;
             }
             Err(e) => return Err(HostFault::Listen(at, e.kind())),
@@ -165,84 +168,97 @@ fn open<R: Net<Listener = TcpListener, Stream = TcpStream>>(
     Ok(Opened { listeners, sockets })
 }
 
-/// The overflow lane, which takes the last seat, where there is to be one.
-fn crowd_at<R: Net>(
+/// The overflow lane, which takes the last lane's listener, where there is to be one.
+fn overflow_at<R: Net>(
     rt: &R,
     alloc: Global,
     lanes: u16,
-    seats: &mut Vec<Seat>,
+    lane_listeners: &mut Vec<LaneListener>,
     limits: Limits,
-) -> io::Result<Option<Crowd>> {
-    if limits.crowd == 0 || lanes < LANES_WITH_CROWD {
+) -> io::Result<Option<OverflowLane>> {
+    if limits.crowd == 0 || lanes < LANES_WITH_OVERFLOW {
         return Ok(None);
     }
-    let Some(seat) = seats.pop() else {
+    let Some(lane_listener) = lane_listeners.pop() else {
         return Ok(None);
     };
     let most = usize::try_from(limits.crowd).unwrap_or(usize::MAX);
-    let patience = Patience::of(limits.turns).door;
-    Ok(Some(Crowd::new(rt, alloc, seat, most, patience)?))
+    let timeout = CallTimeouts::of(limits.turns).door;
+    Ok(Some(OverflowLane::new(rt, alloc, lane_listener, most, timeout)?))
 }
 
-/// The seats of a publisher with `lanes` lanes, and its overflow lane, where there is to be one.
-fn seats_and_crowd<R: Net + Clock>(
+/// The listeners of a publisher with `lanes` lanes, and its overflow lane, where there is to be one.
+fn listeners_and_overflow<R: Net + Clock>(
     rt: &R,
     alloc: Global,
     listeners: Vec<TcpListener>,
     lanes: u16,
-    waits: &Waits,
+    listener_config: &ListenerConfig,
     limits: Limits,
-) -> io::Result<(Vec<Seat>, Option<Crowd>)> {
+) -> io::Result<(Vec<LaneListener>, Option<OverflowLane>)> {
     let streams = lanes.saturating_sub(1);
-    let mut seats = seats_at(rt, alloc, listeners.as_slice(), streams, waits)?;
-    let crowd = crowd_at(rt, alloc, lanes, &mut seats, limits)?;
-    Ok((seats, crowd))
+    let mut lane_listeners = lane_listeners_at(
+        rt,
+        alloc,
+        listeners.as_slice(),
+        streams,
+        listener_config,
+    )?;
+    let overflow = overflow_at(rt, alloc, lanes, &mut lane_listeners, limits)?;
+    Ok((lane_listeners, overflow))
 }
 
-/// The place of a publisher, whose last lane is that of its datagrams.
-fn place_of<R: Net + Clock>(
+/// The sockets of a publisher, whose last lane is that of its datagrams.
+fn sockets_of<R: Net + Clock>(
     rt: &R,
     alloc: Global,
     opened: Opened,
     publisher: (&str, u16),
-    setting: &mut Setting,
-) -> io::Result<PublisherSockets<Crowd>> {
+    config: &mut ServerConfig,
+) -> io::Result<PublisherSockets<OverflowLane>> {
     let Opened { listeners, sockets } = opened;
     let (name, lanes) = publisher;
-    let limits = setting.limits;
-    let waits = Waits {
-        door: Patience::of(limits.turns).door,
+    let limits = config.limits;
+    let listener_config = ListenerConfig {
+        door: CallTimeouts::of(limits.turns).door,
         idle: limits.idle,
-        ending: Arc::try_clone(&setting.supervision.ending)?,
-        proxied: setting.supervision.proxied,
+        shutdown: Arc::try_clone(&config.monitoring.shutdown)?,
+        proxied: config.monitoring.proxied,
     };
-    let sockets = Sockets::with_watch(rt, alloc, sockets, waits.door)?;
-    let record = setting.supervision.record_of(alloc, name, lanes)?;
-    let (seats, crowd) = seats_and_crowd(rt, alloc, listeners, lanes, &waits, limits)?;
+    let sockets = Sockets::with_registration(rt, alloc, sockets, listener_config.door)?;
+    let telemetry = config.monitoring.telemetry_of(alloc, name, lanes)?;
+    let (lane_listeners, overflow) = listeners_and_overflow(
+        rt,
+        alloc,
+        listeners,
+        lanes,
+        &listener_config,
+        limits,
+    )?;
     Ok(PublisherSockets {
-        seats,
-        crowd,
+        lane_listeners,
+        overflow,
         sockets,
-        record,
-        ending: waits.ending,
+        telemetry,
+        shutdown: listener_config.shutdown,
     })
 }
 
 /// The sockets of each publisher, and the lines that tell where they are.
-pub fn places_of<R: Net<Listener = TcpListener, Stream = TcpStream> + Clock>(
+pub fn open_publishers<R: Net<Listener = TcpListener, Stream = TcpStream> + Clock>(
     rt: &R,
     alloc: Global,
     tenants: &Tenants,
-    setting: &mut Setting,
-) -> Result<(Vec<PublisherSockets<Crowd>>, String), HostFault> {
-    let mut places = Vec::new(alloc);
+    config: &mut ServerConfig,
+) -> Result<(Vec<PublisherSockets<OverflowLane>>, String), HostFault> {
+    let mut publishers = Vec::new(alloc);
     let mut lines = String::new(alloc);
     for place in 0..tenants.publishers() {
         let Some((name, lanes, port)) = tenants.publisher(place) else {
             unreachable!()
         };
-        let opened = open(rt, alloc, setting, (name, port), &mut lines)?;
-        places.push(or_device(place_of(rt, alloc, opened, (name, lanes), setting))?)?;
+        let opened = open(rt, alloc, config, (name, port), &mut lines)?;
+        publishers.push(or_device_fault(sockets_of(rt, alloc, opened, (name, lanes), config))?)?;
     }
-    Ok((places, lines))
+    Ok((publishers, lines))
 }

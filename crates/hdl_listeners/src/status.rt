@@ -1,9 +1,9 @@
 //! The page that says how a server is, over HTTP: `/health` and `/metrics`.
 
-use crate::guests::{Answer, Desk};
+use crate::clients::{RequestHandler, Response};
 use hdl_members::Standing;
 use hdl_programs::VERSION;
-use hdl_telemetry::{Counts, Flow, Health, Vitals};
+use hdl_telemetry::{Counts, Health, LogStatus, ProcessMetrics};
 use httparse::Status;
 use httparse::spans::{EMPTY_HEADER_SPAN, parse_request};
 use std::alloc::{AllocError, Global};
@@ -23,9 +23,9 @@ pub struct StatusPage {
     pub counts: Vec<Arc<Counts>>,
     pub health: Arc<Health>,
     /// What the server takes of the machine.
-    pub vitals: Arc<Vitals>,
+    pub process_metrics: Arc<ProcessMetrics>,
     /// How the lines of the log go, where there is one.
-    pub log: Option<Arc<Flow>>,
+    pub log: Option<Arc<LogStatus>>,
     /// How the server stands beside the others, if others have its table.
     pub beside: Option<Arc<Standing>>,
 }
@@ -190,7 +190,7 @@ impl StatusPage {
         self.put_table(out)?;
         self.put_memory(out)?;
         self.put_standing(out)?;
-        self.vitals.put(out)?;
+        self.process_metrics.put(out)?;
         self.put_log(out)
     }
 
@@ -237,20 +237,20 @@ impl StatusPage {
     }
 }
 
-impl Desk for StatusPage {
+impl RequestHandler for StatusPage {
     /// The page that is asked for, once the head of the request is whole.
-    fn answer(&self, alloc: Global, question: &[u8]) -> Answer {
+    fn answer(&self, alloc: Global, request: &[u8]) -> Response {
         let mut headers = [EMPTY_HEADER_SPAN; HEADERS];
-        match parse_request(question, &mut headers) {
+        match parse_request(request, &mut headers) {
             Ok(Status::Complete(spans)) => {
-                let (method, path) = (spans.method.of(question), spans.path.of(question));
+                let (method, path) = (spans.method.of(request), spans.path.of(request));
                 match self.reply(alloc, method, path) {
-                    Ok(reply) => Answer::Octets(reply),
-                    Err(_) => Answer::Nothing,
+                    Ok(reply) => Response::Octets(reply),
+                    Err(_) => Response::Close,
                 }
             }
-            Ok(Status::Partial) => Answer::More,
-            Err(_) => Answer::Nothing,
+            Ok(Status::Partial) => Response::NeedMore,
+            Err(_) => Response::Close,
         }
     }
 }

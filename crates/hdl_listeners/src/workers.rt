@@ -1,12 +1,13 @@
 //! A thread for each lane, with its worker.
 
-use crate::listening::{PublisherSockets, or_device};
+use crate::listening::{PublisherSockets, or_device_fault};
 use hdl_programs::Fault;
 use hdl_sockets::{
-    Bell, Crowd, Ending, MachineClock, MachineNonces, PacketSocket, Part, Seat, Sleep, SocketCrowd,
-    SocketDoor, SocketPackets, Sockets, Watch,
+    ConnectionTimeouts, IdlePoll, LaneListener, LoopWaker, MachineClock, MachineNonces,
+    OverflowDoor, OverflowLane, PacketSocket, ShutdownFlag, SocketDoor, SocketPackets, Sockets,
+    ThreadRole,
 };
-use hdl_telemetry::{Record, Recorder, StreamRecorder};
+use hdl_telemetry::{PublisherTelemetry, Recorder, StreamRecorder};
 use hdl_workers::{EndReason, WorkerEnd, WorkerSide, packet_worker, stream_worker};
 use rand::make_rng;
 use std::alloc::Global;
@@ -17,11 +18,11 @@ use std::thread;
 use std::thread::{JoinHandle, Threads};
 use std::vec::IntoIter;
 
-/// What a worker has in addition to its sockets: its side of the lane, the bell of the thread that serves, its nonces and its turns.
+/// What a worker has in addition to its sockets: its side of the lane, the waker of the thread that serves, its nonces and its turns.
 #[derive(Drop)]
-pub struct Side {
+pub struct WorkerContext {
     ends: WorkerSide,
-    bell: Arc<Bell>,
+    waker: Arc<LoopWaker>,
     nonces: MachineNonces,
     turns: u64,
 }
@@ -29,57 +30,57 @@ pub struct Side {
 /// The sockets of a lane, at which a worker works.
 ///
 /// What starts a worker is generic over it: proving a function that owns sockets costs several times as much.
-pub trait Working {
+pub trait LaneSockets {
     /// Works at the lane on this thread, until the lane or the turns end.
-    fn work_lane<R: Clock + Copy + Drop>(
+    fn run_worker<R: Clock + Copy + Drop>(
         self,
         rt: R,
         alloc: Global,
         recorder: Option<Recorder<R>>,
-        side: Side,
+        context: WorkerContext,
     ) -> WorkerEnd;
 }
 
 /// A connection at a time.
-impl Working for Seat {
-    fn work_lane<R: Clock + Copy + Drop>(
+impl LaneSockets for LaneListener {
+    fn run_worker<R: Clock + Copy + Drop>(
         self,
         rt: R,
         alloc: Global,
         recorder: Option<Recorder<R>>,
-        side: Side,
+        context: WorkerContext,
     ) -> WorkerEnd {
-        let Side {
+        let WorkerContext {
             ends,
-            bell,
+            waker,
             mut nonces,
             turns,
-        } = side;
+        } = context;
         let recorder = recorder.map(StreamRecorder::new);
-        let mut door = SocketDoor::new(Watch::new(rt, self, recorder));
-        let mut clock = MachineClock::new(rt, Part::Works(bell));
+        let mut door = SocketDoor::new(ConnectionTimeouts::new(rt, self, recorder));
+        let mut clock = MachineClock::new(rt, ThreadRole::Worker(waker));
         stream_worker(alloc, &mut door, &mut clock, &mut nonces, ends, turns)
     }
 }
 
 /// Many connections.
-impl Working for Crowd {
-    fn work_lane<R: Clock + Copy + Drop>(
+impl LaneSockets for OverflowLane {
+    fn run_worker<R: Clock + Copy + Drop>(
         self,
         rt: R,
         alloc: Global,
         recorder: Option<Recorder<R>>,
-        side: Side,
+        context: WorkerContext,
     ) -> WorkerEnd {
-        let Side {
+        let WorkerContext {
             ends,
-            bell,
+            waker,
             mut nonces,
             turns,
-        } = side;
-        let mut crowd = SocketCrowd::new(rt, self, recorder);
-        let mut clock = MachineClock::new(rt, Part::Works(bell));
-        packet_worker(alloc, &mut crowd, &mut clock, &mut nonces, ends, turns)
+        } = context;
+        let mut overflow = OverflowDoor::new(rt, self, recorder);
+        let mut clock = MachineClock::new(rt, ThreadRole::Worker(waker));
+        packet_worker(alloc, &mut overflow, &mut clock, &mut nonces, ends, turns)
     }
 }
 
@@ -87,26 +88,26 @@ impl Working for Crowd {
 #[derive(Drop)]
 struct PacketLane {
     sockets: Sockets<PacketSocket>,
-    ending: Arc<Ending>,
+    shutdown: Arc<ShutdownFlag>,
 }
 
-impl Working for PacketLane {
-    fn work_lane<R: Clock + Copy + Drop>(
+impl LaneSockets for PacketLane {
+    fn run_worker<R: Clock + Copy + Drop>(
         self,
         rt: R,
         alloc: Global,
         recorder: Option<Recorder<R>>,
-        side: Side,
+        context: WorkerContext,
     ) -> WorkerEnd {
-        let Side {
+        let WorkerContext {
             ends,
-            bell,
+            waker,
             mut nonces,
             turns,
-        } = side;
-        let PacketLane { sockets, ending } = self;
-        let mut packets = SocketPackets::new(rt, alloc, sockets, ending, recorder);
-        let mut clock = MachineClock::new(rt, Part::Works(bell));
+        } = context;
+        let PacketLane { sockets, shutdown } = self;
+        let mut packets = SocketPackets::new(rt, alloc, sockets, shutdown, recorder);
+        let mut clock = MachineClock::new(rt, ThreadRole::Worker(waker));
         packet_worker(alloc, &mut packets, &mut clock, &mut nonces, ends, turns)
     }
 }
@@ -115,11 +116,11 @@ impl Working for PacketLane {
 fn recorder_of<R: Clock + Copy + Drop>(
     rt: &R,
     alloc: Global,
-    record: &mut Option<Record>,
+    telemetry: &mut Option<PublisherTelemetry>,
     lane: usize,
 ) -> Result<Option<Recorder<R>>, Fault> {
-    match record {
-        Some(record) => Ok(Some(or_device(Recorder::new(*rt, alloc, record, lane))?)),
+    match telemetry {
+        Some(telemetry) => Ok(Some(or_device_fault(Recorder::new(*rt, alloc, telemetry, lane))?)),
         None => Ok(None),
     }
 }
@@ -127,16 +128,19 @@ fn recorder_of<R: Clock + Copy + Drop>(
 /// Starts the worker of a lane.
 fn start_worker<
     R: Threads + Clock + Copy + Send + Drop + 'static,
-    L: Working + Send + Drop + 'static,
+    L: LaneSockets + Send + Drop + 'static,
 >(
     rt: &R,
     alloc: Global,
     lane: L,
     recorder: Option<Recorder<R>>,
-    side: Side,
+    context: WorkerContext,
 ) -> Result<JoinHandle<WorkerEnd>, Fault> {
     let theirs = *rt;
-    match thread::spawn(rt, move || lane.work_lane(theirs, alloc, recorder, side)) {
+    match thread::spawn(
+        rt,
+        move || lane.run_worker(theirs, alloc, recorder, context),
+    ) {
         Ok(worker) => Ok(worker),
         Err(_) => Err(Fault::Device),
     }
@@ -145,7 +149,7 @@ fn start_worker<
 /// The workers that were started, and what those have that are to come.
 #[derive(Drop)]
 struct Workers {
-    sides: IntoIter<Side>,
+    contexts: IntoIter<WorkerContext>,
     started: Vec<JoinHandle<WorkerEnd>>,
 }
 
@@ -153,38 +157,38 @@ impl Workers {
     /// Starts the next worker, at the lane that stands at this place among those of its publisher.
     fn start_next<
         R: Threads + Clock + Copy + Send + Drop + 'static,
-        L: Working + Send + Drop + 'static,
+        L: LaneSockets + Send + Drop + 'static,
     >(
         &mut self,
         rt: &R,
         alloc: Global,
         lane: L,
-        record: &mut Option<Record>,
+        telemetry: &mut Option<PublisherTelemetry>,
         place: usize,
     ) -> Result<(), Fault> {
-        let Some(side) = self.sides.next() else {
+        let Some(context) = self.contexts.next() else {
             return Ok(());
         };
-        let recorder = recorder_of(rt, alloc, record, place)?;
+        let recorder = recorder_of(rt, alloc, telemetry, place)?;
         self.started
-            .push(start_worker(rt, alloc, lane, recorder, side)?)?;
+            .push(start_worker(rt, alloc, lane, recorder, context)?)?;
         Ok(())
     }
 
     /// Starts the workers of these lanes, which are the first of their publisher.
     fn start_first<
         R: Threads + Clock + Copy + Send + Drop + 'static,
-        L: Working + Send + Drop + 'static,
+        L: LaneSockets + Send + Drop + 'static,
     >(
         &mut self,
         rt: &R,
         alloc: Global,
         lanes: Vec<L>,
-        record: &mut Option<Record>,
+        telemetry: &mut Option<PublisherTelemetry>,
     ) -> Result<(), Fault> {
         let mut place = 0usize;
         for lane in lanes {
-            self.start_next(rt, alloc, lane, record, place)?;
+            self.start_next(rt, alloc, lane, telemetry, place)?;
             place = place.saturating_add(1);
         }
         Ok(())
@@ -193,95 +197,95 @@ impl Workers {
     /// Starts the workers of the last lanes of a publisher, from this place on: the overflow lane, if it has one, and that of its datagrams.
     fn start_last<
         R: Threads + Clock + Copy + Send + Drop + 'static,
-        C: Working + Send + Drop + 'static,
-        P: Working + Send + Drop + 'static,
+        C: LaneSockets + Send + Drop + 'static,
+        P: LaneSockets + Send + Drop + 'static,
     >(
         &mut self,
         rt: &R,
         alloc: Global,
         lanes: (Option<C>, P),
-        record: &mut Option<Record>,
+        telemetry: &mut Option<PublisherTelemetry>,
         place: usize,
     ) -> Result<(), Fault> {
-        let (crowd, packets) = lanes;
-        let Some(crowd) = crowd else {
-            return self.start_next(rt, alloc, packets, record, place);
+        let (overflow, packets) = lanes;
+        let Some(overflow) = overflow else {
+            return self.start_next(rt, alloc, packets, telemetry, place);
         };
-        self.start_next(rt, alloc, crowd, record, place)?;
-        self.start_next(rt, alloc, packets, record, place.saturating_add(1))
+        self.start_next(rt, alloc, overflow, telemetry, place)?;
+        self.start_next(rt, alloc, packets, telemetry, place.saturating_add(1))
     }
 
     /// Starts the workers of a publisher's lanes.
-    fn start_place<
+    fn start_publisher<
         R: Threads + Clock + Copy + Send + Drop + 'static,
-        C: Working + Send + Drop + 'static,
-    >(&mut self, rt: &R, alloc: Global, place: PublisherSockets<C>) -> Result<(), Fault> {
+        C: LaneSockets + Send + Drop + 'static,
+    >(&mut self, rt: &R, alloc: Global, publisher: PublisherSockets<C>) -> Result<(), Fault> {
         let PublisherSockets {
-            seats,
-            crowd,
+            lane_listeners,
+            overflow,
             sockets,
-            mut record,
-            ending,
-        } = place;
-        let packets = PacketLane { sockets, ending };
-        let count = seats.len();
-        self.start_first(rt, alloc, seats, &mut record)?;
-        self.start_last(rt, alloc, (crowd, packets), &mut record, count)
+            mut telemetry,
+            shutdown,
+        } = publisher;
+        let packets = PacketLane { sockets, shutdown };
+        let count = lane_listeners.len();
+        self.start_first(rt, alloc, lane_listeners, &mut telemetry)?;
+        self.start_last(rt, alloc, (overflow, packets), &mut telemetry, count)
     }
 }
 
 /// What the workers of these lanes have.
-fn sides_of<R: RandomSource>(
+fn contexts_of<R: RandomSource>(
     rt: &R,
     alloc: Global,
     lanes: Vec<WorkerSide>,
-    sleep: &Sleep,
+    idle_poll: &IdlePoll,
     turns: u64,
-) -> Result<Vec<Side>, Fault> {
-    let mut sides = Vec::with_capacity(alloc, lanes.len())?;
+) -> Result<Vec<WorkerContext>, Fault> {
+    let mut contexts = Vec::with_capacity(alloc, lanes.len())?;
     for ends in lanes {
-        let bell = or_device(sleep.bell())?;
-        let nonces = MachineNonces::new(or_device(make_rng(rt))?);
-        sides.push(Side {
+        let waker = or_device_fault(idle_poll.waker())?;
+        let nonces = MachineNonces::new(or_device_fault(make_rng(rt))?);
+        contexts.push(WorkerContext {
             ends,
-            bell,
+            waker,
             nonces,
             turns,
         })?;
     }
-    Ok(sides)
+    Ok(contexts)
 }
 
 /// Starts a worker for each lane.
-pub fn start<
+pub fn start_workers<
     R: Threads + Clock + RandomSource + Copy + Send + Drop + 'static,
-    C: Working + Send + Drop + 'static,
+    C: LaneSockets + Send + Drop + 'static,
 >(
     rt: &R,
     alloc: Global,
-    places: Vec<PublisherSockets<C>>,
+    publishers: Vec<PublisherSockets<C>>,
     lanes: Vec<WorkerSide>,
-    sleep: &Sleep,
+    idle_poll: &IdlePoll,
     turns: u64,
 ) -> Result<Vec<JoinHandle<WorkerEnd>>, Fault> {
     let started = Vec::with_capacity(alloc, lanes.len())?;
-    let sides = sides_of(rt, alloc, lanes, sleep, turns)?.into_iter();
-    let mut workers = Workers { sides, started };
-    for place in places {
-        workers.start_place(rt, alloc, place)?;
+    let contexts = contexts_of(rt, alloc, lanes, idle_poll, turns)?.into_iter();
+    let mut workers = Workers { contexts, started };
+    for publisher in publishers {
+        workers.start_publisher(rt, alloc, publisher)?;
     }
     Ok(workers.started)
 }
 
 /// Joins each worker. A device fault where a device ended one, unless the server was asked to end.
-pub fn join_all<R: Threads>(
+pub fn join_workers<R: Threads>(
     rt: &R,
     workers: Vec<JoinHandle<WorkerEnd>>,
-    ending: &Ending,
+    shutdown: &ShutdownFlag,
 ) -> Result<(), Fault> {
     let mut ended = Ok(());
     for worker in workers {
-        if worker.join(rt).why == EndReason::Device && !ending.is_asked() {
+        if worker.join(rt).why == EndReason::Device && !shutdown.is_requested() {
             ended = Err(Fault::Device);
         }
     }

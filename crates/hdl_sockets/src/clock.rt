@@ -1,13 +1,13 @@
 //! The machine's clock, and its pauses: short while what is waited for comes soon, and asleep otherwise.
 
-use crate::waking::{Bell, Sleep};
+use crate::idle_poll::{IdlePoll, LoopWaker};
 use hdl_workers::Clock;
 use std::sync::Arc;
 use std::thread;
 use std::time::{Duration, Instant, SystemTime};
 
 /// How many microseconds a worker's long pause sleeps at least, and at most.
-const SLEEP: u64 = 100;
+const SLEEP_LEAST: u64 = 100;
 
 const SLEEP_MOST: u64 = 2_000;
 
@@ -15,21 +15,21 @@ const SLEEP_MOST: u64 = 2_000;
 const SLEEP_PART: u32 = 16;
 
 /// For how many microseconds a wait has short pauses.
-const SHORT: u64 = 30;
+const SPIN_FOR: u64 = 30;
 
 /// If a long pause begins this many milliseconds after its wait, it says nothing of the next wait: no client asked.
-const IDLE: u64 = 10;
+const IDLE_AFTER: u64 = 10;
 
 /// Of the waits after one that needed a long pause, each so-manieth begins with short pauses again.
-const TRIED_AGAIN: u32 = 8;
+const SPIN_AGAIN_EACH: u32 = 8;
 
 /// What a pause is to a thread.
 #[derive(Drop)]
-pub enum Part {
-    /// The thread serves: its long pause ends once a worker rings.
-    Serves(Sleep),
-    /// The thread is a worker's: it rings at each pause, and its long one sleeps a little.
-    Works(Arc<Bell>),
+pub enum ThreadRole {
+    /// The thread serves: its long pause ends once a worker wakes it.
+    Serving(IdlePoll),
+    /// The thread is a worker's: it wakes the one that serves at each pause, and its long one sleeps a little.
+    Worker(Arc<LoopWaker>),
 }
 
 /// The machine's clock in milliseconds, and pauses.
@@ -39,9 +39,9 @@ pub enum Part {
 #[derive(Drop)]
 pub struct MachineClock<R> {
     rt: R,
-    part: Part,
+    role: ThreadRole,
     /// The last moment that was returned.
-    told: u64,
+    last_moment: u64,
     /// When the wait began, if one is under way.
     began: Option<Instant>,
     /// Whether the wait begins with short pauses, and whether it had a long one.
@@ -52,12 +52,12 @@ pub struct MachineClock<R> {
 }
 
 impl<R: std::rt::Clock> MachineClock<R> {
-    /// The clock of a thread with this part.
-    pub fn new(rt: R, part: Part) -> MachineClock<R> {
+    /// The clock of a thread with this role.
+    pub fn new(rt: R, role: ThreadRole) -> MachineClock<R> {
         MachineClock {
             rt,
-            part,
-            told: 0,
+            role,
+            last_moment: 0,
             began: None,
             is_short: true,
             has_slept: false,
@@ -73,11 +73,11 @@ impl<R: std::rt::Clock> MachineClock<R> {
             0
         };
         self.has_slept = false;
-        self.is_short = self.long_waits.is_multiple_of(TRIED_AGAIN);
+        self.is_short = self.long_waits.is_multiple_of(SPIN_AGAIN_EACH);
     }
 
     /// When the wait of a pause at this moment began: now, if none is under way.
-    fn wait_of(&mut self, now: Instant) -> Instant {
+    fn begin_of_wait(&mut self, now: Instant) -> Instant {
         match self.began {
             Some(began) => began,
             None => {
@@ -90,12 +90,12 @@ impl<R: std::rt::Clock> MachineClock<R> {
 
     /// A long pause of a wait that began so long ago.
     fn sleep(&mut self, waited: Duration) {
-        let slept = match &mut self.part {
-            Part::Serves(sleep) => sleep.rest(),
-            Part::Works(_) => false,
+        let slept = match &mut self.role {
+            ThreadRole::Serving(idle_poll) => idle_poll.wait(),
+            ThreadRole::Worker(_) => false,
         };
         if !slept {
-            let least = Duration::from_micros(SLEEP);
+            let least = Duration::from_micros(SLEEP_LEAST);
             let most = Duration::from_micros(SLEEP_MOST);
             let part = waited / SLEEP_PART;
             thread::sleep(&self.rt, part.max(least).min(most));
@@ -103,12 +103,12 @@ impl<R: std::rt::Clock> MachineClock<R> {
     }
 
     /// Pauses, by how long ago the wait began. A wait's first pause is short in any case: a worker may have outcomes in hand.
-    fn rest(&mut self, waited: Duration) {
-        let short = if self.is_short { SHORT } else { 0 };
+    fn pause_after(&mut self, waited: Duration) {
+        let short = if self.is_short { SPIN_FOR } else { 0 };
         if waited <= Duration::from_micros(short) {
             thread::yield_now();
         } else {
-            self.has_slept = waited < Duration::from_millis(IDLE);
+            self.has_slept = waited < Duration::from_millis(IDLE_AFTER);
             self.sleep(waited);
         }
     }
@@ -125,21 +125,21 @@ impl<R: std::rt::Clock> Clock for MachineClock<R> {
         if let Ok(now) = SystemTime::now(&self.rt) {
             if let Ok(since) = now.duration_since(SystemTime::UNIX_EPOCH) {
                 if let Ok(moment) = u64::try_from(since.as_millis()) {
-                    self.told = moment;
+                    self.last_moment = moment;
                 }
             }
         }
-        self.told
+        self.last_moment
     }
 
     fn pause(&mut self) {
-        if let Part::Works(bell) = &self.part {
-            bell.ring();
+        if let ThreadRole::Worker(waker) = &self.role {
+            waker.wake();
         }
         match Instant::now(&self.rt) {
             Ok(now) => {
-                let began = self.wait_of(now);
-                self.rest(now.saturating_duration_since(began));
+                let began = self.begin_of_wait(now);
+                self.pause_after(now.saturating_duration_since(began));
             }
             Err(_) => self.sleep(Duration::ZERO),
         }

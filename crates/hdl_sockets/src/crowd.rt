@@ -3,10 +3,10 @@
 //! The worker of such a lane is that of datagrams: one frame at a time, each answered before the next is received. `hdl_crowd` keeps what is read and
 //! owed, and whose number is whose; here are the sockets, none of which waits.
 
-use crate::entrance::Entrance;
-use crate::silence::Seat;
+use crate::acceptor::Acceptor;
+use crate::client_sockets::ClientSockets;
+use crate::lane_listener::LaneListener;
 use crate::sockets::nothing_came;
-use crate::wires::Wires;
 use hdl_crowd::Book;
 use hdl_frame::ENVELOPE_LEN;
 use hdl_limits::{MESSAGE_MAX, PEERS_MAX};
@@ -26,7 +26,7 @@ const LISTENER: Token = Token(0);
 const AT_ONCE: usize = 64;
 
 /// How many frames are received between two looks for events.
-const BETWEEN_LOOKS: u32 = 32;
+const FRAMES_PER_POLL: u32 = 32;
 
 /// How many octets are asked of a connection at a time.
 const READ_AT_ONCE: usize = 8192;
@@ -35,7 +35,7 @@ const READ_AT_ONCE: usize = 8192;
 const WRITES: u32 = 64;
 
 /// Milliseconds between two looks at the limits of time.
-const TICK: u64 = 1000;
+const TICK_MILLIS: u64 = 1000;
 
 /// What stands next at a place.
 enum NextAtPlace {
@@ -51,79 +51,79 @@ enum NextAtPlace {
 
 /// The connections of a lane.
 #[derive(Drop)]
-pub struct Crowd {
-    entrance: Entrance,
+pub struct OverflowLane {
+    acceptor: Acceptor,
     poll: Poll,
     events: Events,
     /// How long a look for events may take.
-    patience: Duration,
+    poll_timeout: Duration,
     book: Book,
-    wires: Wires,
+    sockets: ClientSockets,
     /// Where the frame that was received last came from.
-    asked: Option<usize>,
+    last_asker: Option<usize>,
     /// How many frames are still received before the next look for events.
-    until_look: u32,
+    until_poll: u32,
     /// The moment of this call, and that at which the limits of time were looked at.
     now: u64,
     ticked: u64,
     /// Whether some connection may be too slow.
-    is_watched: bool,
+    may_have_slow: bool,
 }
 
-impl Crowd {
-    /// A crowd without connections, at the seat's listeners, of at most `most` connections. A look for events waits at most `patience`.
+impl OverflowLane {
+    /// A lane without connections, at the lane's listeners, of at most `most` connections. A look for events waits at most `poll_timeout`.
     pub fn new<R: Net>(
         rt: &R,
         alloc: Global,
-        seat: Seat,
+        lane_listener: LaneListener,
         most: usize,
-        patience: Duration,
-    ) -> io::Result<Crowd> {
+        poll_timeout: Duration,
+    ) -> io::Result<OverflowLane> {
         let poll = Poll::new(rt)?;
-        seat.tell_of_clients(&poll, LISTENER)?;
-        Ok(Crowd {
-            entrance: Entrance::new(seat, most),
+        lane_listener.register_with(&poll, LISTENER)?;
+        Ok(OverflowLane {
+            acceptor: Acceptor::new(lane_listener, most),
             poll,
             events: Events::with_capacity(alloc, AT_ONCE)?,
-            patience,
+            poll_timeout,
             book: Book::new(alloc),
-            wires: Wires::new(alloc),
-            asked: None,
-            until_look: 0,
+            sockets: ClientSockets::new(alloc),
+            last_asker: None,
+            until_poll: 0,
             now: 0,
             ticked: 0,
-            is_watched: false,
+            may_have_slow: false,
         })
     }
 
     /// Leaves the connection at this place.
     fn close(&mut self, place: usize) {
-        self.wires.close(place);
+        self.sockets.close(place);
         self.book.leave(place);
-        self.entrance.is_left();
-        if self.asked == Some(place) {
-            self.asked = None;
+        self.acceptor.note_left();
+        if self.last_asker == Some(place) {
+            self.last_asker = None;
         }
     }
 
     /// Waits for events, if nothing is known to stand anywhere, and notes where something may stand.
-    fn look(&mut self) {
-        let most = if self.wires.is_quiet() {
-            self.entrance
-                .patience(self.book.len(), self.now, self.patience)
+    fn poll_events(&mut self) {
+        let most = if self.sockets.is_queue_empty() {
+            self.acceptor
+                .poll_timeout(self.book.len(), self.now, self.poll_timeout)
         } else {
             Duration::ZERO
         };
-        self.until_look = BETWEEN_LOOKS;
+        self.until_poll = FRAMES_PER_POLL;
         if self.poll.poll(&mut self.events, Some(most)).is_err() {
             return;
         }
         for event in self.events.iter() {
             let token = event.token();
             if token == LISTENER {
-                self.entrance.knocks();
+                self.acceptor.note_readable();
             } else {
-                self.wires.queue(token.0.saturating_sub(1));
+                self.sockets.queue(token.0.saturating_sub(1));
             }
         }
     }
@@ -137,7 +137,10 @@ impl Crowd {
         let Some(place) = self.book.enter(self.now) else {
             return;
         };
-        let introduction = self.entrance.seat.introduction_of(stream.peer_addr().ok());
+        let proxy_header = self
+            .acceptor
+            .lane_listener
+            .proxy_header_of(stream.peer_addr().ok());
         let mut stream = TcpStream::from_std(stream);
         let token = Token(place.saturating_add(1));
         let both = Interest::READABLE | Interest::WRITABLE;
@@ -146,7 +149,7 @@ impl Crowd {
             .registry()
             .register(&mut stream, token, both)
             .is_ok()
-            && self.wires.put(place, stream, introduction).is_ok();
+            && self.sockets.put(place, stream, proxy_header).is_ok();
         if !is_in {
             self.close(place);
         }
@@ -154,16 +157,16 @@ impl Crowd {
 
     /// Takes in those who wait and have no other lane.
     fn admit_some(&mut self) {
-        if !self.entrance.opens(self.book.len(), self.now) {
+        if !self.acceptor.begin_accepting(self.book.len(), self.now) {
             return;
         }
         for _ in 0..AT_ONCE {
-            match self.entrance.accept(self.book.len(), self.now) {
+            match self.acceptor.accept(self.book.len(), self.now) {
                 Some(stream) => self.admit(stream),
                 None => break,
             }
         }
-        self.entrance.shuts();
+        self.acceptor.end_accepting();
     }
 
     /// Writes what is owed at this place, as far as that goes. False: the connection is broken.
@@ -173,7 +176,7 @@ impl Crowd {
             if owed.is_empty() {
                 return true;
             }
-            let Some(stream) = self.wires.stream(place) else {
+            let Some(stream) = self.sockets.stream(place) else {
                 return false;
             };
             match stream.write(owed) {
@@ -182,12 +185,12 @@ impl Crowd {
                 Err(e) if e.kind() == ErrorKind::Interrupted => {}
                 Err(e) => {
                     self.book.refuses(place, self.now);
-                    self.is_watched = true;
+                    self.may_have_slow = true;
                     return nothing_came(e.kind());
                 }
             }
         }
-        self.wires.queue(place);
+        self.sockets.queue(place);
         true
     }
 
@@ -200,25 +203,25 @@ impl Crowd {
     }
 
     /// Notes that nothing more can be read at this place for now.
-    fn waits(&mut self, place: usize) -> NextAtPlace {
+    fn note_waiting(&mut self, place: usize) -> NextAtPlace {
         self.book.waits(place, self.now);
-        self.is_watched = self.is_watched || self.keeps_waiting(place);
+        self.may_have_slow = self.may_have_slow || self.keeps_waiting(place);
         NextAtPlace::Nothing
     }
 
     /// Reads once at this place, in the header of a proxy first.
-    fn hear(&mut self, place: usize) -> NextAtPlace {
-        match self.wires.hear_introduction(place) {
-            None => self.hear_frames(place),
+    fn read_once(&mut self, place: usize) -> NextAtPlace {
+        match self.sockets.read_proxy_header(place) {
+            None => self.read_frames(place),
             Some(Ok(_)) => NextAtPlace::More,
-            Some(Err(e)) if nothing_came(e.kind()) => self.waits(place),
+            Some(Err(e)) if nothing_came(e.kind()) => self.note_waiting(place),
             Some(Err(_)) => NextAtPlace::End,
         }
     }
 
     /// Reads once at this place what belongs to frames.
-    fn hear_frames(&mut self, place: usize) -> NextAtPlace {
-        let Some(stream) = self.wires.stream(place) else {
+    fn read_frames(&mut self, place: usize) -> NextAtPlace {
+        let Some(stream) = self.sockets.stream(place) else {
             return NextAtPlace::End;
         };
         let mut octets = [0; READ_AT_ONCE];
@@ -228,7 +231,7 @@ impl Crowd {
                 Ok(()) => NextAtPlace::More,
                 Err(_) => NextAtPlace::End,
             },
-            Err(e) if nothing_came(e.kind()) => self.waits(place),
+            Err(e) if nothing_came(e.kind()) => self.note_waiting(place),
             Err(_) => NextAtPlace::End,
         }
     }
@@ -246,15 +249,15 @@ impl Crowd {
         }
         match self.book.next_frame(place, buffer) {
             Ok(Some((number, len))) => NextAtPlace::Frame(number, len),
-            Ok(None) => self.hear_or_turn_away(place),
+            Ok(None) => self.read_or_refuse(place),
             Err(_) => NextAtPlace::End,
         }
     }
 
     /// Reads on, unless a refusal is owed.
-    fn hear_or_turn_away(&mut self, place: usize) -> NextAtPlace {
+    fn read_or_refuse(&mut self, place: usize) -> NextAtPlace {
         if self.book.owed(place).is_empty() {
-            self.hear(place)
+            self.read_once(place)
         } else {
             NextAtPlace::More
         }
@@ -262,14 +265,14 @@ impl Crowd {
 
     /// The frame that stands first in the queue, if one does.
     fn take_first(&mut self, buffer: &mut [u8]) -> Option<(u16, usize)> {
-        let place = self.wires.next()?;
+        let place = self.sockets.next_queued()?;
         match self.next_at(place, buffer) {
             NextAtPlace::Frame(number, len) => {
-                self.wires.queue(place);
-                self.asked = Some(place);
+                self.sockets.queue(place);
+                self.last_asker = Some(place);
                 return Some((number, len));
             }
-            NextAtPlace::More => self.wires.queue(place),
+            NextAtPlace::More => self.sockets.queue(place),
             NextAtPlace::Nothing => {}
             NextAtPlace::End => self.close(place),
         }
@@ -279,7 +282,7 @@ impl Crowd {
     /// The next frame of those in the queue.
     fn take_next(&mut self, buffer: &mut [u8]) -> Option<(u16, usize)> {
         for _ in 0..AT_ONCE {
-            if self.wires.is_quiet() {
+            if self.sockets.is_queue_empty() {
                 break;
             }
             if let Some(found) = self.take_first(buffer) {
@@ -290,17 +293,17 @@ impl Crowd {
     }
 
     /// Closes the connections that are too slow, and finds the place of the one that is silent longest, and since when.
-    fn close_late(&mut self) -> Option<(usize, u64)> {
+    fn close_slow(&mut self) -> Option<(usize, u64)> {
         let mut longest: Option<(usize, u64)> = None;
-        for place in 0..self.wires.places() {
-            if self.wires.is_queued(place) {
+        for place in 0..self.sockets.places() {
+            if self.sockets.is_queued(place) {
                 continue;
             }
             let Some(pace) = self.book.pace(place) else {
                 continue;
             };
-            self.is_watched = self.is_watched || pace.keeps_waiting();
-            if pace.is_late(self.now) || self.wires.stream(place).is_none() {
+            self.may_have_slow = self.may_have_slow || pace.keeps_waiting();
+            if pace.is_late(self.now) || self.sockets.stream(place).is_none() {
                 self.close(place);
             } else if let Some(since) = pace.silent_since() {
                 longest = longer(longest, place, since);
@@ -310,64 +313,64 @@ impl Crowd {
     }
 
     /// Closes the connections that are too slow, if some may be, and finds the one that is silent longest, if one may have to go.
-    fn watch(&mut self) -> Option<(usize, u64)> {
-        if !self.is_watched && !self.entrance.is_full(self.book.len(), self.now) {
+    fn check_timeouts(&mut self) -> Option<(usize, u64)> {
+        if !self.may_have_slow && !self.acceptor.is_full(self.book.len(), self.now) {
             return None;
         }
-        self.is_watched = self.wires.has_lost();
-        self.close_late()
+        self.may_have_slow = self.sockets.has_dropped();
+        self.close_slow()
     }
 
     /// Looks at the limits of time.
     fn tick(&mut self) {
-        if self.now.saturating_sub(self.ticked) < TICK {
+        if self.now.saturating_sub(self.ticked) < TICK_MILLIS {
             return;
         }
         self.ticked = self.now;
-        let longest = self.watch();
+        let longest = self.check_timeouts();
         let since = longest.map(|(_, since)| since);
-        if self.entrance.is_crowded(self.book.len(), since, self.now) {
+        if self.acceptor.report_state(self.book.len(), since, self.now) {
             if let Some((place, _)) = longest {
                 self.close(place);
-                self.entrance.knocks();
+                self.acceptor.note_readable();
             }
         }
     }
 
     /// Writes the last answer as far as that goes, and looks for events if it is time to: that may take a while.
-    fn look_round(&mut self, now: u64) {
+    fn flush_and_poll(&mut self, now: u64) {
         self.now = now;
-        if let Some(place) = self.asked {
-            self.asked = None;
+        if let Some(place) = self.last_asker {
+            self.last_asker = None;
             if !self.flush(place) {
                 self.close(place);
             }
         }
-        if self.wires.is_quiet() || self.until_look == 0 {
-            self.look();
+        if self.sockets.is_queue_empty() || self.until_poll == 0 {
+            self.poll_events();
         }
     }
 
     /// The next frame of any connection.
     fn next_frame(&mut self, now: u64, buffer: &mut [u8]) -> Option<(u16, usize)> {
         self.now = now;
-        self.until_look = self.until_look.saturating_sub(1);
+        self.until_poll = self.until_poll.saturating_sub(1);
         self.tick();
         self.admit_some();
         self.take_next(buffer)
     }
 
     /// The address of the client whose frame was received last.
-    fn asker(&self) -> Option<SocketAddr> {
-        self.wires.client(self.asked?)
+    fn last_client(&self) -> Option<SocketAddr> {
+        self.sockets.client(self.last_asker?)
     }
 
-    /// Says a datagram of an answer. False: its client is left.
-    fn say(&mut self, number: u16, datagram: &[u8]) -> bool {
+    /// Queues a datagram of an answer. False: its client is left.
+    fn put_reply(&mut self, number: u16, datagram: &[u8]) -> bool {
         if self.book.put_datagram(number, datagram).is_some() {
             return true;
         }
-        if let Some(place) = self.asked {
+        if let Some(place) = self.last_asker {
             self.close(place);
         }
         false
@@ -382,34 +385,34 @@ fn longer(first: Option<(usize, u64)>, place: usize, since: u64) -> Option<(usiz
     }
 }
 
-/// A crowd as a place where frames come in from numbered peers. Of a server that is to end it fails.
+/// An overflow lane as a place where frames come in from numbered peers. Of a server that is to end it fails.
 #[derive(Drop)]
-pub struct SocketCrowd<R> {
+pub struct OverflowDoor<R> {
     rt: R,
-    crowd: Crowd,
+    lane: OverflowLane,
     recorder: Option<Recorder<R>>,
     faults: u64,
 }
 
-impl<R> SocketCrowd<R> {
-    pub fn new(rt: R, crowd: Crowd, recorder: Option<Recorder<R>>) -> SocketCrowd<R> {
-        SocketCrowd {
+impl<R> OverflowDoor<R> {
+    pub fn new(rt: R, lane: OverflowLane, recorder: Option<Recorder<R>>) -> OverflowDoor<R> {
+        OverflowDoor {
             rt,
-            crowd,
+            lane,
             recorder,
             faults: 0,
         }
     }
 }
 
-impl<R: std::rt::Clock + Drop> SocketCrowd<R> {
+impl<R: std::rt::Clock + Drop> OverflowDoor<R> {
     /// The moment, of the clock that the lanes of the publisher share.
     fn now(&self) -> u64 {
-        self.crowd.entrance.seat.moment(&self.rt)
+        self.lane.acceptor.lane_listener.moment(&self.rt)
     }
 }
 
-impl<R: std::rt::Clock + Drop> Packets for SocketCrowd<R> {
+impl<R: std::rt::Clock + Drop> Packets for OverflowDoor<R> {
     ghost use Rattle.std.specs.Prelude.{false, []};
 
     ghost is_observed = { false };
@@ -427,18 +430,18 @@ impl<R: std::rt::Clock + Drop> Packets for SocketCrowd<R> {
         _may_wait: bool,
     ) -> Result<Option<(u16, usize)>, DoorFault> {
         let before = self.now();
-        self.crowd.look_round(before);
-        if self.crowd.entrance.seat.is_ending() {
+        self.lane.flush_and_poll(before);
+        if self.lane.acceptor.lane_listener.is_ending() {
             self.faults = self.faults.saturating_add(1);
             return Err(DoorFault);
         }
         let now = self.now();
         // each frame of the book is within these bounds
-        match self.crowd.next_frame(now, buffer) {
+        match self.lane.next_frame(now, buffer) {
             Some((number, len))
                 if number > 0 && usize::from(number) <= PEERS_MAX && len <= buffer.len() => {
                 if let Some(recorder) = &mut self.recorder {
-                    recorder.set_connections(self.crowd.book.len());
+                    recorder.set_connections(self.lane.book.len());
                     recorder.note_lone_request(number, &buffer[..len]);
                 }
                 Ok(Some((number, len)))
@@ -448,7 +451,7 @@ impl<R: std::rt::Clock + Drop> Packets for SocketCrowd<R> {
     }
 
     fn end_reply(&mut self) {
-        self.crowd.book.end_reply();
+        self.lane.book.end_reply();
     }
 
     fn most_under_way(&self) -> usize {
@@ -458,10 +461,10 @@ impl<R: std::rt::Clock + Drop> Packets for SocketCrowd<R> {
     fn send(&mut self, peer: u16, octets: &[u8]) -> Result<(), DoorFault> {
         if let Some(recorder) = &mut self.recorder {
             if let Some(entry) = recorder.note_reply(peer, octets) {
-                recorder.put(self.crowd.asker(), &entry);
+                recorder.put(self.lane.last_client(), &entry);
             }
         }
-        if self.crowd.say(peer, octets) {
+        if self.lane.put_reply(peer, octets) {
             return Ok(());
         }
         self.faults = self.faults.saturating_add(1);

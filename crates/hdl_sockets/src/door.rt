@@ -1,23 +1,23 @@
 //! The machine's streams as doors. They tell nothing.
 
 use crate::sockets::{has_no_room, nothing_came};
-use crate::watch::Watch;
+use crate::timeouts::ConnectionTimeouts;
 use hdl_workers::{Door, DoorFault};
 use std::net::TcpStream;
 
-/// Listeners that several workers share, and the connection of this one, which is watched. `accept` waits for a while, so that a worker
+/// Listeners that several workers share, and the connection of this one, within its limits of time. `accept` waits for a while, so that a worker
 /// without a connection costs little. Of a server that is to end it fails.
 #[derive(Drop)]
 pub struct SocketDoor<R> {
-    watch: Watch<R>,
+    timeouts: ConnectionTimeouts<R>,
     stream: Option<TcpStream>,
     faults: u64,
 }
 
 impl<R> SocketDoor<R> {
-    pub fn new(watch: Watch<R>) -> SocketDoor<R> {
+    pub fn new(timeouts: ConnectionTimeouts<R>) -> SocketDoor<R> {
         SocketDoor {
-            watch,
+            timeouts,
             stream: None,
             faults: 0,
         }
@@ -39,20 +39,20 @@ impl<R: std::rt::Clock + Drop> Door for SocketDoor<R> {
     ghost fault_count = { λ d. d.faults };
 
     fn accept(&mut self) -> Result<bool, DoorFault> {
-        match self.watch.accept() {
+        match self.timeouts.accept() {
             Ok(stream) => {
                 let _ = stream.set_nodelay(true);
-                self.watch.begin(&stream);
+                self.timeouts.begin(&stream);
                 self.stream = Some(stream);
                 Ok(true)
             }
             Err(e) if nothing_came(e.kind()) => Ok(false),
             Err(e) if has_no_room(&e) => {
-                self.watch.pause();
+                self.timeouts.pause();
                 Ok(false)
             }
             Err(_) => {
-                self.watch.stop();
+                self.timeouts.stop();
                 self.faults = self.faults.saturating_add(1);
                 Err(DoorFault)
             }
@@ -61,7 +61,7 @@ impl<R: std::rt::Clock + Drop> Door for SocketDoor<R> {
 
     fn read(&mut self, buffer: &mut [u8]) -> Result<usize, DoorFault> {
         if let Some(stream) = &mut self.stream {
-            if let Ok(count) = self.watch.read(stream, buffer) {
+            if let Ok(count) = self.timeouts.read(stream, buffer) {
                 return Ok(count.min(buffer.len()));
             }
         }
@@ -71,7 +71,7 @@ impl<R: std::rt::Clock + Drop> Door for SocketDoor<R> {
 
     fn write(&mut self, octets: &[u8]) -> Result<usize, DoorFault> {
         if let Some(stream) = &mut self.stream {
-            if let Ok(count) = self.watch.write(stream, octets) {
+            if let Ok(count) = self.timeouts.write(stream, octets) {
                 return Ok(count.min(octets.len()));
             }
         }
@@ -85,7 +85,7 @@ impl<R: std::rt::Clock + Drop> Door for SocketDoor<R> {
 
     fn leave(&mut self) {
         self.stream = None;
-        self.watch.end();
+        self.timeouts.end();
     }
 
     fn faults(&self) -> u64 {

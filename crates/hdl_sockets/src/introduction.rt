@@ -8,18 +8,18 @@ use std::io::{self, ErrorKind, Read};
 const READ_AT_ONCE: usize = 64;
 
 /// For how many milliseconds a header is waited for.
-pub const HEADER: u64 = 10_000;
+pub const HEADER_WAIT: u64 = 10_000;
 
 /// The header of a connection, as far as it came.
 #[derive(Drop)]
-pub struct Introduction {
+pub struct ProxyHeader {
     octets: Vec<u8>,
 }
 
-impl Introduction {
+impl ProxyHeader {
     /// An introduction of which no octet came yet.
-    pub fn new(alloc: Global) -> Introduction {
-        Introduction {
+    pub fn new(alloc: Global) -> ProxyHeader {
+        ProxyHeader {
             octets: Vec::new(alloc),
         }
     }

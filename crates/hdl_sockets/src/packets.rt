@@ -1,9 +1,9 @@
 //! The machine's datagram sockets as doors. They tell nothing.
 
-use crate::ending::Ending;
-use crate::instead::too_long;
-use crate::proven::Proven;
+use crate::error_reply::too_long_reply;
+use crate::shutdown_flag::ShutdownFlag;
 use crate::sockets::{PacketSocket, Sockets, nothing_came};
+use crate::verified_addresses::VerifiedAddresses;
 use hdl_frame::{ENVELOPE_LEN, Envelope};
 use hdl_limits::UNDER_WAY_MAX;
 use hdl_telemetry::{PacketRecorder, Recorder};
@@ -26,28 +26,28 @@ pub struct Sender {
 
 /// How far the reply to the oldest frame is.
 #[derive(Clone, Copy)]
-enum Course {
+enum ReplyState {
     /// Nothing of it was sent.
-    Begins,
+    NotBegun,
     /// Its datagrams go.
-    Goes,
+    Sending,
     /// Another reply went in its place.
-    IsWithheld,
+    Withheld,
 }
 
 /// The datagram sockets of a publisher, who has which number, and who answered a challenge.
 #[derive(Drop)]
-struct Post<R> {
+struct DatagramSockets<R> {
     alloc: Global,
     sockets: Sockets<PacketSocket>,
     peers: Peers<Sender>,
-    proven: Proven<R, Sender>,
-    course: Course,
-    ending: Arc<Ending>,
+    verified: VerifiedAddresses<R, Sender>,
+    reply_state: ReplyState,
+    shutdown: Arc<ShutdownFlag>,
     recorder: Option<PacketRecorder<R>>,
 }
 
-impl<R: std::rt::Clock + Drop> Post<R> {
+impl<R: std::rt::Clock + Drop> DatagramSockets<R> {
     /// A frame came from the peer with this number.
     fn note_request(&mut self, peer: u16, frame: &[u8]) {
         if let Some(recorder) = &mut self.recorder {
@@ -58,7 +58,7 @@ impl<R: std::rt::Clock + Drop> Post<R> {
     /// The reply to the oldest frame is whole, or there is none.
     fn end_reply(&mut self) {
         self.peers.end_reply();
-        self.course = Course::Begins;
+        self.reply_state = ReplyState::NotBegun;
         if let Some(recorder) = &mut self.recorder {
             recorder.end_reply();
         }
@@ -97,7 +97,7 @@ impl<R: std::rt::Clock + Drop> Post<R> {
 
     /// Whether the reply that begins with this datagram may go whole: it isn't much longer than what asked, or its address answered a challenge, perhaps
     /// by the very frame that it replies to.
-    fn may_go(&mut self, to: Sender, first: &[u8]) -> bool {
+    fn permit_reply(&mut self, to: Sender, first: &[u8]) -> bool {
         let Some(packets) = self.sockets.get(to.place) else {
             return false;
         };
@@ -105,18 +105,18 @@ impl<R: std::rt::Clock + Drop> Post<R> {
             return true;
         };
         if self.peers.answers_challenge() {
-            self.proven.put(to);
+            self.verified.put(to);
         }
         let Some(envelope) = first.first_chunk::<ENVELOPE_LEN>() else {
             return false;
         };
         let length = Envelope::read(envelope).length;
-        self.peers.is_within(times, length) || self.proven.has(to)
+        self.peers.is_within(times, length) || self.verified.has(to)
     }
 
     /// Sends another reply in place of the one that begins with this datagram. Memory that is refused is a lost datagram.
-    fn send_instead(&self, to: Sender, first: &[u8]) -> bool {
-        match too_long(self.alloc, first) {
+    fn send_error_reply(&self, to: Sender, first: &[u8]) -> bool {
+        match too_long_reply(self.alloc, first) {
             Some(octets) => self.send_back(to, octets.as_slice()),
             None => true,
         }
@@ -124,21 +124,21 @@ impl<R: std::rt::Clock + Drop> Post<R> {
 
     /// Begins a reply by its first datagram, or by another reply in its place. Whether that went.
     fn begin(&mut self, to: Sender, first: &[u8]) -> bool {
-        if self.may_go(to, first) {
-            self.course = Course::Goes;
+        if self.permit_reply(to, first) {
+            self.reply_state = ReplyState::Sending;
             self.send_back(to, first)
         } else {
-            self.course = Course::IsWithheld;
-            self.send_instead(to, first)
+            self.reply_state = ReplyState::Withheld;
+            self.send_error_reply(to, first)
         }
     }
 
     /// Sends the next datagram of a reply, unless another reply went in its place. Whether what is sent went.
     fn send_next(&mut self, to: Sender, octets: &[u8]) -> bool {
-        match self.course {
-            Course::Begins => self.begin(to, octets),
-            Course::Goes => self.send_back(to, octets),
-            Course::IsWithheld => true,
+        match self.reply_state {
+            ReplyState::NotBegun => self.begin(to, octets),
+            ReplyState::Sending => self.send_back(to, octets),
+            ReplyState::Withheld => true,
         }
     }
 
@@ -153,10 +153,10 @@ impl<R: std::rt::Clock + Drop> Post<R> {
     }
 }
 
-/// A publisher's post as a door. Of a server that is to end it fails.
+/// A publisher's datagram sockets as a door. Of a server that is to end it fails.
 #[derive(Drop)]
 pub struct SocketPackets<R> {
-    post: Post<R>,
+    post: DatagramSockets<R>,
     faults: u64,
 }
 
@@ -165,20 +165,20 @@ impl<R: std::rt::Clock + Drop> SocketPackets<R> {
         rt: R,
         alloc: Global,
         sockets: Sockets<PacketSocket>,
-        ending: Arc<Ending>,
+        shutdown: Arc<ShutdownFlag>,
         recorder: Option<Recorder<R>>,
     ) -> SocketPackets<R> {
         let recorder = match recorder {
             Some(recorder) => Some(PacketRecorder::new(recorder)),
             None => None,
         };
-        let post = Post {
+        let post = DatagramSockets {
             alloc,
             sockets,
             peers: Peers::new(alloc),
-            proven: Proven::new(rt, alloc),
-            course: Course::Begins,
-            ending,
+            verified: VerifiedAddresses::new(rt, alloc),
+            reply_state: ReplyState::NotBegun,
+            shutdown,
             recorder,
         };
         SocketPackets { post, faults: 0 }
@@ -201,7 +201,7 @@ impl<R: std::rt::Clock + Drop> Packets for SocketPackets<R> {
         buffer: &mut [u8],
         may_wait: bool,
     ) -> Result<Option<(u16, usize)>, DoorFault> {
-        if self.post.ending.is_asked() {
+        if self.post.shutdown.is_requested() {
             self.faults = self.faults.saturating_add(1);
             return Err(DoorFault);
         }

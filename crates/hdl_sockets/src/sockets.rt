@@ -1,6 +1,6 @@
 //! The sockets of a lane, one at each address, and what failed calls of a socket say.
 
-use crate::lookout::Lookout;
+use crate::socket_poll::SocketPoll;
 use std::alloc::Global;
 use std::io::{self, ErrorKind};
 use std::net::{Net, SocketAddr, TcpListener, TcpStream, UdpSocket};
@@ -20,12 +20,12 @@ pub fn nothing_came(kind: ErrorKind) -> bool {
 }
 
 /// Errors of the system that say that it has no room for one more descriptor or connection: ENOMEM, ENFILE, EMFILE, ENOBUFS.
-const WITHOUT_ROOM: [i32; 4] = [12, 23, 24, 105];
+const NO_ROOM_ERRORS: [i32; 4] = [12, 23, 24, 105];
 
 /// Whether a call that failed says only that the machine has no room for what came, which it may have later.
 pub fn has_no_room(error: &io::Error) -> bool {
     match error.raw_os_error() {
-        Some(code) => WITHOUT_ROOM.contains(&code),
+        Some(code) => NO_ROOM_ERRORS.contains(&code),
         None => false,
     }
 }
@@ -39,7 +39,7 @@ pub trait Source: AsRawFd {
     fn take(&self, buffer: &mut [u8]) -> io::Result<Self::Taken>;
 
     /// Has `take` wait at most `most`, or not at all.
-    fn limit(&self, most: Option<Duration>) -> io::Result<()>;
+    fn set_timeout(&self, most: Option<Duration>) -> io::Result<()>;
 }
 
 impl Source for TcpListener {
@@ -51,7 +51,7 @@ impl Source for TcpListener {
     }
 
     /// A socket's time to receive holds for `accept` too, but listeners have no call to set it.
-    fn limit(&self, most: Option<Duration>) -> io::Result<()> {
+    fn set_timeout(&self, most: Option<Duration>) -> io::Result<()> {
         match most {
             Some(_) => TcpStream::from(OwnedFd::from(self.try_clone()?)).set_read_timeout(most),
             None => self.set_nonblocking(true),
@@ -100,7 +100,7 @@ impl Source for PacketSocket {
         self.socket.recv_from(buffer)
     }
 
-    fn limit(&self, most: Option<Duration>) -> io::Result<()> {
+    fn set_timeout(&self, most: Option<Duration>) -> io::Result<()> {
         match most {
             Some(_) => self.socket.set_read_timeout(most),
             None => self.socket.set_nonblocking(true),
@@ -114,9 +114,9 @@ pub struct Sockets<S> {
     sockets: Vec<S>,
     /// The place of the one that is asked first.
     first: usize,
-    lookout: Lookout,
+    poll: SocketPoll,
     /// Whether the look has all of them for good.
-    is_watched: bool,
+    is_registered: bool,
     most: Duration,
 }
 
@@ -130,44 +130,44 @@ impl<S: Source + Drop> Sockets<S> {
     ) -> io::Result<Sockets<S>> {
         let own = if sockets.len() == 1 { Some(most) } else { None };
         for socket in &sockets {
-            socket.limit(own)?;
+            socket.set_timeout(own)?;
         }
         Ok(Sockets {
             sockets,
             first: 0,
-            lookout: Lookout::new(rt, alloc)?,
-            is_watched: false,
+            poll: SocketPoll::new(rt, alloc)?,
+            is_registered: false,
             most,
         })
     }
 
     /// Sockets from which one thread alone takes. Their calls don't wait; a look at them all does, for at most `most`.
-    pub fn with_watch<R: Net>(
+    pub fn with_registration<R: Net>(
         rt: &R,
         alloc: Global,
         sockets: Vec<S>,
         most: Duration,
     ) -> io::Result<Sockets<S>> {
         for socket in &sockets {
-            socket.limit(None)?;
+            socket.set_timeout(None)?;
         }
-        let mut lookout = Lookout::new(rt, alloc)?;
-        lookout.watch(sockets.as_slice())?;
+        let mut poll = SocketPoll::new(rt, alloc)?;
+        poll.register_all(sockets.as_slice())?;
         Ok(Sockets {
             sockets,
             first: 0,
-            lookout,
-            is_watched: true,
+            poll,
+            is_registered: true,
             most,
         })
     }
 
     /// Looks for something that came, for at most `most`. Whether there is something.
-    fn looks(&mut self, most: Duration) -> bool {
-        if self.is_watched {
-            self.lookout.waits(most)
+    fn wait_ready(&mut self, most: Duration) -> bool {
+        if self.is_registered {
+            self.poll.wait_registered(most)
         } else {
-            self.lookout.sees(self.sockets.as_slice(), most)
+            self.poll.wait_ready(self.sockets.as_slice(), most)
         }
     }
 
@@ -181,8 +181,8 @@ impl<S: Source + Drop> Sockets<S> {
     }
 
     /// Whether something came for one of them, without waiting.
-    pub fn has_more(&mut self) -> bool {
-        self.looks(Duration::ZERO)
+    pub fn poll_now(&mut self) -> bool {
+        self.wait_ready(Duration::ZERO)
     }
 
     /// Takes what came for one of them already, with its place. Each is asked once, the one that gave something last at the end, so that none keeps another
@@ -209,8 +209,8 @@ impl<S: Source + Drop> Sockets<S> {
     /// Takes what came for one of them, with its place. It may wait for a while.
     pub fn take(&mut self, buffer: &mut [u8]) -> io::Result<(usize, S::Taken)> {
         match self.take_now(buffer) {
-            Err(e) if nothing_came(e.kind()) && (self.is_watched || self.sockets.len() > 1) => {
-                self.looks(self.most);
+            Err(e) if nothing_came(e.kind()) && (self.is_registered || self.sockets.len() > 1) => {
+                self.wait_ready(self.most);
                 self.take_now(buffer)
             }
             answer => answer,

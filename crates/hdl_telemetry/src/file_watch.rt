@@ -19,7 +19,7 @@ pub enum FileChange {
 
 /// What is seen of a file at its path.
 #[derive(Clone, Copy, PartialEq, Eq)]
-struct Look {
+struct FileStat {
     device: u64,
     inode: u64,
     size: u64,
@@ -28,9 +28,9 @@ struct Look {
 }
 
 /// Looks at the file at a path.
-fn seen_at<R: Files>(rt: &R, path: &str) -> io::Result<Look> {
+fn stat_at<R: Files>(rt: &R, path: &str) -> io::Result<FileStat> {
     let found = fs::metadata(rt, path)?;
-    Ok(Look {
+    Ok(FileStat {
         device: found.dev(),
         inode: found.ino(),
         size: found.size(),
@@ -40,7 +40,7 @@ fn seen_at<R: Files>(rt: &R, path: &str) -> io::Result<Look> {
 }
 
 /// How a file is known once the server wrote: as it is now, unless it was taken away meanwhile.
-fn noted(seen: Option<Look>, now: io::Result<Look>) -> Option<Look> {
+fn noted(seen: Option<FileStat>, now: io::Result<FileStat>) -> Option<FileStat> {
     match (seen, now) {
         (Some(seen), Ok(now)) if now.device == seen.device && now.inode == seen.inode => Some(now),
         (None, Ok(now)) => Some(now),
@@ -49,7 +49,7 @@ fn noted(seen: Option<Look>, now: io::Result<Look>) -> Option<Look> {
 }
 
 /// What became of a file that was seen so. A path that can't be looked at tells nothing.
-fn change_of(seen: Option<Look>, now: io::Result<Look>) -> Option<FileChange> {
+fn change_of(seen: Option<FileStat>, now: io::Result<FileStat>) -> Option<FileChange> {
     let seen = seen?;
     match now {
         Ok(now) if now == seen => None,
@@ -67,8 +67,8 @@ fn change_of(seen: Option<Look>, now: io::Result<Look>) -> Option<FileChange> {
 pub struct FileWatch {
     path: String,
     log: String,
-    file_seen: Option<Look>,
-    log_seen: Option<Look>,
+    file_seen: Option<FileStat>,
+    log_seen: Option<FileStat>,
 }
 
 impl FileWatch {
@@ -86,20 +86,20 @@ impl FileWatch {
 
     /// The server wrote: both are as it left them.
     pub fn note<R: Files>(&mut self, rt: &R) {
-        self.file_seen = noted(self.file_seen, seen_at(rt, self.path.as_str()));
-        self.log_seen = noted(self.log_seen, seen_at(rt, self.log.as_str()));
+        self.file_seen = noted(self.file_seen, stat_at(rt, self.path.as_str()));
+        self.log_seen = noted(self.log_seen, stat_at(rt, self.log.as_str()));
     }
 
     /// How many octets both have now; 0 of one that can't be looked at.
     pub fn sizes<R: Files>(&self, rt: &R) -> (u64, u64) {
-        let size_of = |path: &str| seen_at(rt, path).map_or(0, |look| look.size);
+        let size_of = |path: &str| stat_at(rt, path).map_or(0, |stat| stat.size);
         (size_of(self.path.as_str()), size_of(self.log.as_str()))
     }
 
     /// What another program made of one of them since.
     pub fn change<R: Files>(&self, rt: &R) -> Option<FileChange> {
-        let file = change_of(self.file_seen, seen_at(rt, self.path.as_str()));
-        file.or(change_of(self.log_seen, seen_at(rt, self.log.as_str())))
+        let file = change_of(self.file_seen, stat_at(rt, self.path.as_str()));
+        file.or(change_of(self.log_seen, stat_at(rt, self.log.as_str())))
     }
 
     /// The same, while the server may write: what is written tells nothing.

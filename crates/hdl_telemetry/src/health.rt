@@ -2,8 +2,8 @@
 
 use crate::file_watch::FileChange;
 use crate::histogram::Histogram;
+use crate::memory::can_allocate;
 use crate::notice::Notice;
-use crate::room::has_room;
 use std::alloc::{AllocError, Global};
 use std::sync::atomic::Ordering::SeqCst;
 use std::sync::atomic::{AtomicBool, AtomicU64};
@@ -88,7 +88,7 @@ impl Health {
     }
 
     /// Notes what another program made of the table's file, as it was seen just now. While the file is away the table takes no changes, and once it was overwritten never again.
-    pub fn see_file(&self, change: Option<FileChange>) {
+    pub fn note_file(&self, change: Option<FileChange>) {
         let is_away = matches!(change, Some(FileChange::Gone | FileChange::Replaced));
         let was_away = self.is_away.swap(is_away, SeqCst);
         match change {
@@ -143,8 +143,8 @@ impl Health {
     }
 
     /// Sees whether as much memory can be had as is kept aside.
-    pub fn see_room(&self, alloc: Global) -> bool {
-        let is_there = has_room(alloc, self.reserve);
+    pub fn check_memory(&self, alloc: Global) -> bool {
+        let is_there = can_allocate(alloc, self.reserve);
         self.is_short.store(!is_there, SeqCst);
         is_there
     }
@@ -218,9 +218,9 @@ impl Health {
     }
 
     /// Says on standard error what is due.
-    pub fn say_due<R: Eprint>(&self, rt: &R) {
+    pub fn print_due<R: Eprint>(&self, rt: &R) {
         for notice in self.notices() {
-            notice.say_if_due(rt);
+            notice.print_if_due(rt);
         }
     }
 }

@@ -1,11 +1,11 @@
 //! The log of changes, whose lines a thread of its own writes.
 //!
 //! ```text
-//! the recorder of a lane -> Voice ==a queue for each==> Log::write_lines -> standard error, or a file
+//! the recorder of a lane -> LogSender ==a queue for each==> Log::write_lines -> standard error, or a file
 //! ```
 
-use crate::flow::{Backlog, Flow};
 use crate::log_file::{LogFile, open_log};
+use crate::log_status::{Backlog, LogStatus};
 use hdl_lanes::{Inlet, Outlet, lane};
 use std::alloc::{AllocError, Global};
 use std::fs::File;
@@ -31,34 +31,34 @@ enum Sink {
     File(File),
 }
 
-/// Where the recorder of a lane says its lines. Saying one waits for nothing.
+/// Where the recorder of a lane sends its lines. Sending one waits for nothing.
 #[derive(Drop)]
-pub struct Voice {
+pub struct LogSender {
     lines: Inlet<String>,
     backlog: Arc<Backlog>,
-    flow: Arc<Flow>,
+    status: Arc<LogStatus>,
 }
 
-impl Voice {
-    /// Says a line, with its LF. Where too many wait it is lost, and counted.
-    pub fn say(&mut self, line: String) {
+impl LogSender {
+    /// Sends a line, with its LF. Where too many wait it is lost, and counted.
+    pub fn send(&mut self, line: String) {
         let octets = line.len() as u64;
-        if !self.backlog.enters(octets) {
-            return self.flow.lose();
+        if !self.backlog.reserve(octets) {
+            return self.status.count_lost();
         }
         if self.lines.put(line).is_err() {
-            self.backlog.leaves(octets);
-            self.flow.lose();
+            self.backlog.release(octets);
+            self.status.count_lost();
         }
     }
 
     /// Notes that a line couldn't be made.
-    pub fn lose(&self) {
-        self.flow.lose();
+    pub fn count_lost(&self) {
+        self.status.count_lost();
     }
 }
 
-/// The other end of a voice.
+/// The other end of a sender.
 #[derive(Drop)]
 struct Queue {
     lines: Outlet<String>,
@@ -69,23 +69,23 @@ impl Queue {
     /// Takes the line that waits longest.
     fn take(&mut self) -> Option<String> {
         let line = self.lines.take()?;
-        self.backlog.leaves(line.len() as u64);
+        self.backlog.release(line.len() as u64);
         Some(line)
     }
 }
 
 /// What writes lines.
 #[derive(Drop)]
-struct Pen {
+struct LogWriter {
     sink: Sink,
     /// Where the file comes from once it was opened anew.
     files: Option<Outlet<File>>,
-    flow: Arc<Flow>,
+    status: Arc<LogStatus>,
     /// Whether the last line couldn't be written.
     is_failing: bool,
 }
 
-impl Pen {
+impl LogWriter {
     /// Writes a line by one call.
     fn write<R: Eprint>(&mut self, rt: &R, line: &str) {
         let written = match &mut self.sink {
@@ -94,12 +94,12 @@ impl Pen {
         };
         self.is_failing = written.is_err();
         if self.is_failing {
-            self.flow.fail();
+            self.status.fail();
         }
     }
 
     /// Goes on in the file that was opened anew, if one was. The one before is closed.
-    fn turn(&mut self) {
+    fn switch_file(&mut self) {
         if let Some(files) = &mut self.files {
             if let Some(file) = files.take() {
                 self.sink = Sink::File(file);
@@ -108,29 +108,29 @@ impl Pen {
     }
 
     /// For when no line waits: reports how many lines were lost, if lines can be written.
-    fn rest(&self) {
+    fn report_lost(&self) {
         if !self.is_failing {
-            self.flow.show_lost();
+            self.status.report_lost();
         }
     }
 }
 
-/// Where the lines of changes go, and the queue of each voice.
+/// Where the lines of changes go, and the queue of each sender.
 #[derive(Drop)]
 pub struct Log {
     queues: Vec<Queue>,
-    pen: Pen,
+    writer: LogWriter,
 }
 
 impl Log {
     fn new(alloc: Global, sink: Sink) -> io::Result<Log> {
-        let flow = Arc::new(alloc, Flow::new(alloc)?)?;
+        let status = Arc::new(alloc, LogStatus::new(alloc)?)?;
         Ok(Log {
             queues: Vec::new(alloc),
-            pen: Pen {
+            writer: LogWriter {
                 sink,
                 files: None,
-                flow,
+                status,
                 is_failing: false,
             },
         })
@@ -146,23 +146,23 @@ impl Log {
         let alloc = rt.alloc();
         let mut log = Log::new(alloc, Sink::File(open_log(rt, path)?))?;
         let (inlet, files) = lane(alloc, FILES_MOST)?;
-        log.pen.files = Some(files);
+        log.writer.files = Some(files);
         let file = LogFile {
             rt: *rt,
             path: String::from_str(alloc, path)?,
             files: inlet,
-            flow: log.flow()?,
+            status: log.status()?,
         };
         Ok((log, file))
     }
 
-    /// The flow of the log's lines.
-    pub fn flow(&self) -> Result<Arc<Flow>, AllocError> {
-        Ok(Arc::try_clone(&self.pen.flow)?)
+    /// The status of the log.
+    pub fn status(&self) -> Result<Arc<LogStatus>, AllocError> {
+        Ok(Arc::try_clone(&self.writer.status)?)
     }
 
-    /// A voice for one more lane.
-    pub fn voice(&mut self, alloc: Global) -> Result<Voice, AllocError> {
+    /// A sender for one more lane.
+    pub fn sender(&mut self, alloc: Global) -> Result<LogSender, AllocError> {
         let (inlet, lines) = lane(alloc, LINES_MOST)?;
         let backlog = Arc::new(alloc, Backlog::new())?;
         let queue = Queue {
@@ -170,39 +170,39 @@ impl Log {
             backlog: Arc::try_clone(&backlog)?,
         };
         self.queues.push(queue)?;
-        Ok(Voice {
+        Ok(LogSender {
             lines: inlet,
             backlog,
-            flow: self.flow()?,
+            status: self.status()?,
         })
     }
 
-    /// Writes a line of each voice that said one. Whether any did.
+    /// Writes a line of each sender that sent one. Whether any did.
     fn write_round<R: Eprint>(&mut self, rt: &R) -> bool {
         let mut any = false;
         for queue in self.queues.iter_mut() {
             if let Some(line) = queue.take() {
-                self.pen.write(rt, line.as_str());
+                self.writer.write(rt, line.as_str());
                 any = true;
             }
         }
         any
     }
 
-    /// Writes what is said, until no more comes.
+    /// Writes the lines that are sent, until no more come.
     pub fn write_lines<R: Clock + Eprint>(&mut self, rt: &R) {
         for _ in 0..u64::MAX {
-            let is_over = self.pen.flow.is_over();
-            self.pen.turn();
+            let has_ended = self.writer.status.has_ended();
+            self.writer.switch_file();
             if self.write_round(rt) {
                 continue;
             }
-            self.pen.rest();
-            if is_over {
+            self.writer.report_lost();
+            if has_ended {
                 break;
             }
             thread::sleep(rt, Duration::from_millis(PAUSE));
         }
-        self.pen.flow.set_written();
+        self.writer.status.set_written();
     }
 }

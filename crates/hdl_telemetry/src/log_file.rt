@@ -1,6 +1,6 @@
 //! The file of a log, which is opened anew once another program has moved it.
 
-use crate::flow::Flow;
+use crate::log_status::LogStatus;
 use hdl_lanes::Inlet;
 use std::fs::{self, File, OpenOptions};
 use std::io;
@@ -33,23 +33,23 @@ pub struct LogFile {
     pub(crate) rt: HostRuntime,
     pub(crate) path: String,
     pub(crate) files: Inlet<File>,
-    pub(crate) flow: Arc<Flow>,
+    pub(crate) status: Arc<LogStatus>,
 }
 
 impl LogFile {
     /// Opens the file anew, if that was asked for. If it can't be opened, lines go on into the one that is open, and that is said.
-    pub fn open_if_asked(&mut self) {
-        if !self.flow.takes_word() {
+    pub fn reopen_if_requested(&mut self) {
+        if !self.status.take_reopen_request() {
             return;
         }
         match open_log(&self.rt, self.path.as_str()) {
             Ok(file) => {
                 // if the thread that writes hasn't taken the one before, this is tried again
                 if self.files.put(file).is_err() {
-                    self.flow.ask_anew();
+                    self.status.request_reopen();
                 }
             }
-            Err(_) => self.flow.miss_file(),
+            Err(_) => self.status.note_reopen_failed(),
         }
     }
 }

@@ -9,7 +9,7 @@ use std::sync::atomic::Ordering::SeqCst;
 pub struct Notice {
     line: String,
     is_raised: AtomicBool,
-    is_said: AtomicBool,
+    is_printed: AtomicBool,
 }
 
 impl Notice {
@@ -18,7 +18,7 @@ impl Notice {
         Ok(Notice {
             line: format!(in alloc; "{words}\n")?,
             is_raised: AtomicBool::new(false),
-            is_said: AtomicBool::new(false),
+            is_printed: AtomicBool::new(false),
         })
     }
 
@@ -34,15 +34,15 @@ impl Notice {
 
     /// Whether it was raised, and not printed yet.
     pub fn is_due(&self) -> bool {
-        self.is_raised() && !self.is_said.load(SeqCst)
+        self.is_raised() && !self.is_printed.load(SeqCst)
     }
 
     /// Says it on standard error by one call, if it is due. One thread alone does.
-    pub fn say_if_due<R: Eprint>(&self, rt: &R) {
+    pub fn print_if_due<R: Eprint>(&self, rt: &R) {
         if self.is_due() {
             let line = self.line.as_str();
             let _ = eprint!(rt; "{line}");
-            self.is_said.store(true, SeqCst);
+            self.is_printed.store(true, SeqCst);
         }
     }
 }

@@ -1,7 +1,7 @@
 //! Reading along with a lane: its replies are counted, and each change gets a line.
 
 use crate::counts::Counts;
-use crate::log::Voice;
+use crate::log::LogSender;
 use crate::stopwatch::Stopwatch;
 use hdl_audit::{Detail, Entry, Follower, Moment, UnansweredFrame};
 use hdl_frame::Cutter;
@@ -14,16 +14,16 @@ use std::sync::Arc;
 use std::time::SystemTime;
 use std::vec::IntoIter;
 
-/// What is recorded of a publisher's lanes, and the voices of those that are to come, if there is a log.
+/// What is recorded of a publisher's lanes, and the senders of those that are to come, if there is a log.
 #[derive(Drop)]
-pub struct Record {
+pub struct PublisherTelemetry {
     pub counts: Arc<Counts>,
-    pub voices: IntoIter<Voice>,
+    pub senders: IntoIter<LogSender>,
 }
 
-/// What is followed for this voice: names are for lines alone.
-fn detail_for(voice: &Option<Voice>) -> Detail {
-    if voice.is_some() {
+/// What is followed for this sender: names are for lines alone.
+fn detail_for(sender: &Option<LogSender>) -> Detail {
+    if sender.is_some() {
         Detail::Names
     } else {
         Detail::Operations
@@ -38,23 +38,28 @@ pub struct Recorder<R> {
     counts: Arc<Counts>,
     /// The lane's place among those of its publisher.
     lane: usize,
-    voice: Option<Voice>,
+    sender: Option<LogSender>,
     follower: Follower,
     stopwatch: Stopwatch,
 }
 
 impl<R: Clock + Drop> Recorder<R> {
-    /// The recorder of the lane at this place, with the next voice.
-    pub fn new(rt: R, alloc: Global, record: &mut Record, lane: usize) -> io::Result<Recorder<R>> {
-        let voice = record.voices.next();
+    /// The recorder of the lane at this place, with the next sender.
+    pub fn new(
+        rt: R,
+        alloc: Global,
+        telemetry: &mut PublisherTelemetry,
+        lane: usize,
+    ) -> io::Result<Recorder<R>> {
+        let sender = telemetry.senders.next();
         Ok(Recorder {
             rt,
             alloc,
-            counts: Arc::try_clone(&record.counts)?,
+            counts: Arc::try_clone(&telemetry.counts)?,
             lane,
-            follower: Follower::new(alloc, detail_for(&voice)),
+            follower: Follower::new(alloc, detail_for(&sender)),
             stopwatch: Stopwatch::new(),
-            voice,
+            sender,
         })
     }
 
@@ -65,7 +70,7 @@ impl<R: Clock + Drop> Recorder<R> {
 
     /// A connection begins, or nothing of the lane is certain any more.
     fn begin(&mut self) {
-        self.follower = Follower::new(self.alloc, detail_for(&self.voice));
+        self.follower = Follower::new(self.alloc, detail_for(&self.sender));
         self.stopwatch = Stopwatch::new();
     }
 
@@ -104,7 +109,7 @@ impl<R: Clock + Drop> Recorder<R> {
         if followed.answer.accepts_change() {
             self.counts.set_changed(self.moment());
         }
-        if self.voice.is_none() {
+        if self.sender.is_none() {
             return None;
         }
         followed.entry
@@ -121,13 +126,13 @@ impl<R: Clock + Drop> Recorder<R> {
         }
     }
 
-    /// Says the line of an entry. Where memory for it is refused it is lost.
+    /// Sends the line of an entry. Where memory for it is refused it is lost.
     pub fn put(&mut self, from: Option<SocketAddr>, entry: &Entry) {
         let line = self.line_of(from, entry);
-        if let Some(voice) = &mut self.voice {
+        if let Some(sender) = &mut self.sender {
             match line {
-                Ok(line) => voice.say(line),
-                Err(_) => voice.lose(),
+                Ok(line) => sender.send(line),
+                Err(_) => sender.count_lost(),
             }
         }
     }
@@ -185,7 +190,7 @@ impl<R: Clock + Drop> PacketRecorder<R> {
         self.recorder.note_reply(peer, datagram)
     }
 
-    /// Says the line of an entry. Where memory for it is refused it is lost.
+    /// Sends the line of an entry. Where memory for it is refused it is lost.
     pub fn put(&mut self, from: Option<SocketAddr>, entry: &Entry) {
         self.recorder.put(from, entry);
     }
@@ -197,8 +202,8 @@ pub struct StreamRecorder<R> {
     recorder: Recorder<R>,
     from: Option<SocketAddr>,
     /// What cuts the octets of each way into frames; none where memory for them was refused.
-    heard: Option<Cutter>,
-    said: Option<Cutter>,
+    incoming: Option<Cutter>,
+    outgoing: Option<Cutter>,
 }
 
 impl<R: Clock + Drop> StreamRecorder<R> {
@@ -207,8 +212,8 @@ impl<R: Clock + Drop> StreamRecorder<R> {
         StreamRecorder {
             recorder,
             from: None,
-            heard: None,
-            said: None,
+            incoming: None,
+            outgoing: None,
         }
     }
 
@@ -218,8 +223,8 @@ impl<R: Clock + Drop> StreamRecorder<R> {
         self.recorder.begin();
         self.recorder.set_connections(1);
         self.from = from;
-        self.heard = Some(Cutter::new(alloc));
-        self.said = Some(Cutter::new(alloc));
+        self.incoming = Some(Cutter::new(alloc));
+        self.outgoing = Some(Cutter::new(alloc));
     }
 
     /// The proxy that the connection comes from named its client.
@@ -234,11 +239,11 @@ impl<R: Clock + Drop> StreamRecorder<R> {
 
     /// Notes octets that came. If they can't be cut into frames, nothing after them is recorded.
     pub fn note_octets(&mut self, octets: &[u8]) {
-        let Some(cutter) = &mut self.heard else {
+        let Some(cutter) = &mut self.incoming else {
             return;
         };
         if cutter.feed(octets).is_err() {
-            self.heard = None;
+            self.incoming = None;
             return;
         }
         // each frame ends with one of these octets or after it
@@ -252,11 +257,11 @@ impl<R: Clock + Drop> StreamRecorder<R> {
 
     /// Notes octets that were written, and logs the replies in them.
     pub fn note_written(&mut self, octets: &[u8]) {
-        let Some(cutter) = &mut self.said else {
+        let Some(cutter) = &mut self.outgoing else {
             return;
         };
         if cutter.feed(octets).is_err() {
-            self.said = None;
+            self.outgoing = None;
             return;
         }
         for _ in 0..octets.len() {

@@ -1,15 +1,18 @@
 //! What a server tells of itself in addition to its answers, and how it takes words.
 
+use crate::clients::serve_clients;
 use crate::control::{Control, listen};
 use crate::fault::HostFault;
-use crate::guests::serve_guests;
-use crate::listening::{PublisherSockets, or_device};
+use crate::listening::{PublisherSockets, or_device_fault};
+use crate::reporter::{Reporter, run_reporter};
 use crate::status::StatusPage;
-use crate::telling::{Telling, tell};
 use hdl_members::Standing;
 use hdl_programs::Fault;
-use hdl_sockets::Ending;
-use hdl_telemetry::{Counts, FileWatch, Flow, Health, Log, LogFile, Notice, Record, Vitals, Voice};
+use hdl_sockets::ShutdownFlag;
+use hdl_telemetry::{
+    Counts, FileWatch, Health, Log, LogFile, LogSender, LogStatus, Notice, ProcessMetrics,
+    PublisherTelemetry,
+};
 use std::alloc::{AllocError, Global};
 use std::fs::Files;
 use std::net::{IpAddr, Net, SocketAddr, TcpListener, TcpStream};
@@ -21,13 +24,13 @@ use std::time::Duration;
 use std::{io, thread};
 
 /// How many times a server that ends looks whether all lines are written, and for how many milliseconds it waits each time.
-const LOOKS: u32 = 100;
+const CHECKS_MOST: u32 = 100;
 
-const LOOK: u64 = 20;
+const CHECK_EACH: u64 = 20;
 
 /// What a server tells of itself, and how it takes the word to end.
 #[derive(Drop)]
-pub struct Supervision {
+pub struct Monitoring {
     /// What is said on standard error once the server listens.
     pub begins: String,
     /// Where a line of each change goes, and what opens its file anew, if it is one.
@@ -42,21 +45,21 @@ pub struct Supervision {
     /// Whether the table takes changes.
     pub health: Arc<Health>,
     /// What the server takes of the machine.
-    pub vitals: Arc<Vitals>,
+    pub process_metrics: Arc<ProcessMetrics>,
     /// The table's file, as it was opened, where it has one.
     pub file: Option<FileWatch>,
     /// What is said of each bound, in their order, once it is reached.
     pub bounds: Arc<Vec<Notice>>,
     /// Whether the server is asked to end.
-    pub ending: Arc<Ending>,
+    pub shutdown: Arc<ShutdownFlag>,
     /// How the server stands beside others, if others have its table.
     pub beside: Option<Arc<Standing>>,
 }
 
-impl Supervision {
+impl Monitoring {
     /// No log, no status page, no control socket.
-    pub fn none(alloc: Global) -> Result<Supervision, AllocError> {
-        Ok(Supervision {
+    pub fn none(alloc: Global) -> Result<Monitoring, AllocError> {
+        Ok(Monitoring {
             begins: String::new(alloc),
             log: None,
             log_file: None,
@@ -64,98 +67,101 @@ impl Supervision {
             control: None,
             proxied: None,
             health: Arc::new(alloc, Health::new(alloc, 0)?)?,
-            vitals: Arc::new(alloc, Vitals::new())?,
+            process_metrics: Arc::new(alloc, ProcessMetrics::new())?,
             file: None,
             bounds: Arc::new(alloc, Vec::new(alloc))?,
-            ending: Arc::new(alloc, Ending::new())?,
+            shutdown: Arc::new(alloc, ShutdownFlag::new())?,
             beside: None,
         })
     }
 
-    /// Voices for `lanes` lanes; none where there is no log.
-    fn voices(&mut self, alloc: Global, lanes: u16) -> Result<Vec<Voice>, AllocError> {
-        let mut voices = Vec::new(alloc);
+    /// Senders of lines for `lanes` lanes; none where there is no log.
+    fn senders(&mut self, alloc: Global, lanes: u16) -> Result<Vec<LogSender>, AllocError> {
+        let mut senders = Vec::new(alloc);
         if let Some(log) = &mut self.log {
             for _ in 0..lanes {
-                voices.push(log.voice(alloc)?)?;
+                senders.push(log.sender(alloc)?)?;
             }
         }
-        Ok(voices)
+        Ok(senders)
     }
 
     /// The recorders of a publisher with `lanes` lanes, if a log or a status page is asked for.
-    pub fn record_of(
+    pub fn telemetry_of(
         &mut self,
         alloc: Global,
         publisher: &str,
         lanes: u16,
-    ) -> io::Result<Option<Record>> {
+    ) -> io::Result<Option<PublisherTelemetry>> {
         if self.log.is_none() && self.status.is_none() {
             return Ok(None);
         }
         let counts = Arc::new(alloc, Counts::new(alloc, publisher, lanes)?)?;
-        let voices = self.voices(alloc, lanes)?.into_iter();
-        Ok(Some(Record { counts, voices }))
+        let senders = self.senders(alloc, lanes)?.into_iter();
+        Ok(Some(PublisherTelemetry { counts, senders }))
     }
 }
 
 /// The sockets at which a server is watched and ended, its log, and what it may have to say.
 #[derive(Drop)]
-pub struct Supervised {
+pub struct MonitoringSockets {
     status: Option<(TcpListener, StatusPage)>,
     control: Option<(UnixListener, Control)>,
     log: Option<Log>,
-    watched: Watched,
+    active: ActiveMonitoring,
 }
 
 /// What is looked at while a server runs, and at its end.
 #[derive(Drop)]
-pub struct Watched {
+pub struct ActiveMonitoring {
     /// Whether the server is asked to end.
-    pub ending: Arc<Ending>,
-    telling: Telling,
+    pub shutdown: Arc<ShutdownFlag>,
+    reporter: Reporter,
 }
 
-impl Watched {
+impl ActiveMonitoring {
     /// Whether everything is said, and the last lines of the log are written.
-    fn is_told(&self) -> bool {
-        self.telling.is_log_written() && !self.telling.has_due()
+    fn is_reported(&self) -> bool {
+        self.reporter.is_log_written() && !self.reporter.has_due()
     }
 
     /// Once all lanes have ended: waits until all lines are written, two seconds at most.
-    pub fn leave<R: Clock>(&self, rt: &R) {
-        self.telling.end_log();
-        for _ in 0..LOOKS {
-            if self.is_told() {
+    pub fn flush<R: Clock>(&self, rt: &R) {
+        self.reporter.end_log();
+        for _ in 0..CHECKS_MOST {
+            if self.is_reported() {
                 break;
             }
-            thread::sleep(rt, Duration::from_millis(LOOK));
+            thread::sleep(rt, Duration::from_millis(CHECK_EACH));
         }
     }
 }
 
 /// The counts of all publishers.
-fn all_counts<C>(alloc: Global, places: &[PublisherSockets<C>]) -> io::Result<Vec<Arc<Counts>>> {
+fn all_counts<C>(
+    alloc: Global,
+    publishers: &[PublisherSockets<C>],
+) -> io::Result<Vec<Arc<Counts>>> {
     let mut all = Vec::new(alloc);
-    for place in places {
-        if let Some(record) = &place.record {
-            all.push(Arc::try_clone(&record.counts)?)?;
+    for publisher in publishers {
+        if let Some(telemetry) = &publisher.telemetry {
+            all.push(Arc::try_clone(&telemetry.counts)?)?;
         }
     }
     Ok(all)
 }
 
 /// How the lines of the log go, where there is one.
-fn flow_of(supervision: &Supervision) -> Result<Option<Arc<Flow>>, AllocError> {
-    match &supervision.log {
-        Some(log) => Ok(Some(log.flow()?)),
+fn log_status_of(monitoring: &Monitoring) -> Result<Option<Arc<LogStatus>>, AllocError> {
+    match &monitoring.log {
+        Some(log) => Ok(Some(log.status()?)),
         None => Ok(None),
     }
 }
 
 /// How the server stands beside others, if others have its table.
-fn standing_of(supervision: &Supervision) -> Result<Option<Arc<Standing>>, AllocError> {
-    match &supervision.beside {
+fn standing_of(monitoring: &Monitoring) -> Result<Option<Arc<Standing>>, AllocError> {
+    match &monitoring.beside {
         Some(standing) => Ok(Some(Arc::try_clone(standing)?)),
         None => Ok(None),
     }
@@ -164,69 +170,72 @@ fn standing_of(supervision: &Supervision) -> Result<Option<Arc<Standing>>, Alloc
 /// What the status page tells.
 fn page_of<C>(
     alloc: Global,
-    supervision: &Supervision,
-    places: &[PublisherSockets<C>],
+    monitoring: &Monitoring,
+    publishers: &[PublisherSockets<C>],
 ) -> io::Result<StatusPage> {
     Ok(StatusPage {
-        counts: all_counts(alloc, places)?,
-        health: Arc::try_clone(&supervision.health)?,
-        vitals: Arc::try_clone(&supervision.vitals)?,
-        log: flow_of(supervision)?,
-        beside: standing_of(supervision)?,
+        counts: all_counts(alloc, publishers)?,
+        health: Arc::try_clone(&monitoring.health)?,
+        process_metrics: Arc::try_clone(&monitoring.process_metrics)?,
+        log: log_status_of(monitoring)?,
+        beside: standing_of(monitoring)?,
     })
 }
 
 /// What takes the words.
-fn control_of(supervision: &Supervision) -> io::Result<Control> {
-    let log = match supervision.log_file {
-        Some(_) => flow_of(supervision)?,
+fn control_of(monitoring: &Monitoring) -> io::Result<Control> {
+    let log = match monitoring.log_file {
+        Some(_) => log_status_of(monitoring)?,
         None => None,
     };
     Ok(Control {
-        ending: Arc::try_clone(&supervision.ending)?,
+        shutdown: Arc::try_clone(&monitoring.shutdown)?,
         log,
     })
 }
 
 /// What is looked at while the server runs.
-fn watched_of(supervision: &Supervision) -> io::Result<Watched> {
-    Ok(Watched {
-        ending: Arc::try_clone(&supervision.ending)?,
-        telling: Telling {
-            health: Arc::try_clone(&supervision.health)?,
-            bounds: Arc::try_clone(&supervision.bounds)?,
-            log: flow_of(supervision)?,
+fn active_of(monitoring: &Monitoring) -> io::Result<ActiveMonitoring> {
+    Ok(ActiveMonitoring {
+        shutdown: Arc::try_clone(&monitoring.shutdown)?,
+        reporter: Reporter {
+            health: Arc::try_clone(&monitoring.health)?,
+            bounds: Arc::try_clone(&monitoring.bounds)?,
+            log: log_status_of(monitoring)?,
         },
     })
 }
 
 /// Opens the sockets at which a server is watched and ended, and takes its log.
-pub fn supervise<R: Net<Listener = TcpListener, Stream = TcpStream> + Files, C>(
+pub fn open_monitoring<R: Net<Listener = TcpListener, Stream = TcpStream> + Files, C>(
     rt: &R,
     alloc: Global,
-    supervision: &mut Supervision,
-    places: &[PublisherSockets<C>],
-) -> Result<Supervised, HostFault> {
-    let status = match supervision.status {
+    monitoring: &mut Monitoring,
+    publishers: &[PublisherSockets<C>],
+) -> Result<MonitoringSockets, HostFault> {
+    let status = match monitoring.status {
         Some(at) => match TcpListener::bind(rt, at) {
-            Ok(listener) => Some((listener, or_device(page_of(alloc, supervision, places))?)),
+            Ok(listener) => Some((
+                listener,
+                or_device_fault(page_of(alloc, monitoring, publishers))?,
+            )),
             Err(e) => return Err(HostFault::Listen(at, e.kind())),
         },
         None => None,
     };
-    let control = match &supervision.control {
+    let control = match &monitoring.control {
         Some(path) => match listen(rt, path.as_str()) {
-            Ok(listener) => Some((listener, or_device(control_of(supervision))?)),
+            Ok(listener) => Some((listener, or_device_fault(control_of(monitoring))?)),
             Err(e) => return Err(HostFault::Control(e.kind())),
         },
         None => None,
     };
-    let watched = or_device(watched_of(supervision))?;
-    Ok(Supervised {
+    let active = or_device_fault(active_of(monitoring))?;
+    Ok(MonitoringSockets {
         status,
         control,
-        log: supervision.log.take(),
-        watched,
+        log: monitoring.log.take(),
+        active,
     })
 }
 
@@ -239,7 +248,7 @@ fn start_status<R: Threads + Clock + Copy + Send + Drop + 'static>(
 ) -> Result<(), Fault> {
     let theirs = *rt;
     match thread::spawn(rt, move || {
-        serve_guests(&theirs, alloc, &listener, &page);
+        serve_clients(&theirs, alloc, &listener, &page);
     }) {
         Ok(_) => Ok(()),
         Err(_) => Err(Fault::Device),
@@ -255,7 +264,7 @@ fn start_control<R: Threads + Clock + Copy + Send + Drop + 'static>(
 ) -> Result<(), Fault> {
     let theirs = *rt;
     match thread::spawn(rt, move || {
-        serve_guests(&theirs, alloc, &listener, &control);
+        serve_clients(&theirs, alloc, &listener, &control);
     }) {
         Ok(_) => Ok(()),
         Err(_) => Err(Fault::Device),
@@ -278,31 +287,31 @@ fn start_log<R: Threads + Clock + Eprint + Copy + Send + Drop + 'static>(
 }
 
 /// Starts the thread that says what is due.
-fn start_telling<R: Threads + Clock + Eprint + Copy + Send + Drop + 'static>(
+fn start_reporter<R: Threads + Clock + Eprint + Copy + Send + Drop + 'static>(
     rt: &R,
-    telling: Telling,
+    reporter: Reporter,
 ) -> Result<(), Fault> {
     let theirs = *rt;
     match thread::spawn(rt, move || {
-        tell(&theirs, &telling);
+        run_reporter(&theirs, &reporter);
     }) {
         Ok(_) => Ok(()),
         Err(_) => Err(Fault::Device),
     }
 }
 
-impl Supervised {
+impl MonitoringSockets {
     /// Starts what answers at these sockets, writes the log and says what is due, on threads that end with the program.
     pub fn start<R: Threads + Clock + Eprint + Copy + Send + Drop + 'static>(
         self,
         rt: &R,
         alloc: Global,
-    ) -> Result<Watched, Fault> {
-        let Supervised {
+    ) -> Result<ActiveMonitoring, Fault> {
+        let MonitoringSockets {
             status,
             control,
             log,
-            watched,
+            active,
         } = self;
         if let Some((listener, page)) = status {
             start_status(rt, alloc, listener, page)?;
@@ -313,7 +322,7 @@ impl Supervised {
         if let Some(log) = log {
             start_log(rt, log)?;
         }
-        start_telling(rt, watched.telling.try_clone()?)?;
-        Ok(watched)
+        start_reporter(rt, active.reporter.try_clone()?)?;
+        Ok(active)
     }
 }

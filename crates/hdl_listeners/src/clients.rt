@@ -11,49 +11,49 @@ use std::thread;
 use std::time::{Duration, Instant};
 
 /// How many clients are served at a time. Where one more comes, the one that came first is left.
-const GUESTS_MOST: usize = 32;
+const CLIENTS_MOST: usize = 32;
 
 /// For how many seconds a client may take to ask, and to take its answer.
-const PATIENCE: u64 = 5;
+const TIMEOUT: u64 = 5;
 
-/// How many octets of a question are read at most, and at a time.
-const QUESTION: usize = 4096;
+/// How many octets of a request are read at most, and at a time.
+const REQUEST_MOST: usize = 4096;
 
 const CHUNK: usize = 1024;
 
 /// For how many milliseconds the thread sleeps that waits for slow clients, and after a client that the machine had no room for.
 const PAUSE: u64 = 5;
 
-const WITHOUT_ROOM: u64 = 500;
+const RETRY_AFTER: u64 = 500;
 
 /// What the octets of a client come to.
 #[derive(Drop)]
-pub enum Answer {
+pub enum Response {
     /// It shall say more.
-    More,
+    NeedMore,
     /// It gets these, and its connection is closed.
     Octets(Vec<u8>),
     /// It stays connected, as long as the program runs.
-    Stays,
+    KeepOpen,
     /// Its connection is closed.
-    Nothing,
+    Close,
 }
 
 /// What answers clients.
-pub trait Desk {
+pub trait RequestHandler {
     /// What a client comes to that said these octets so far.
-    fn answer(&self, alloc: Global, question: &[u8]) -> Answer;
+    fn answer(&self, alloc: Global, request: &[u8]) -> Response;
 }
 
 /// Where clients come in.
-pub trait Gate {
+pub trait ClientListener {
     type Stream: Read + Write + Drop;
 
     /// The next client, whose calls don't wait. Whether this one waits for it is said.
     fn accept(&self, may_wait: bool) -> io::Result<Self::Stream>;
 }
 
-impl Gate for TcpListener {
+impl ClientListener for TcpListener {
     type Stream = TcpStream;
 
     fn accept(&self, may_wait: bool) -> io::Result<TcpStream> {
@@ -64,7 +64,7 @@ impl Gate for TcpListener {
     }
 }
 
-impl Gate for UnixListener {
+impl ClientListener for UnixListener {
     type Stream = UnixStream;
 
     fn accept(&self, may_wait: bool) -> io::Result<UnixStream> {
@@ -77,15 +77,15 @@ impl Gate for UnixListener {
 
 /// What becomes of a client.
 #[derive(Clone, Copy, PartialEq, Eq)]
-enum Course {
+enum ClientState {
     /// It asks, or takes its answer.
-    GoesOn,
-    Stays,
-    Leaves,
+    Active,
+    KeptOpen,
+    Closed,
 }
 
 /// Writes of these octets what a client takes: how many it took, and what becomes of it.
-fn write_some<S: Write>(stream: &mut S, octets: &[u8]) -> (usize, Course) {
+fn write_some<S: Write>(stream: &mut S, octets: &[u8]) -> (usize, ClientState) {
     let mut written = 0usize;
     for _ in 0..octets.len() {
         let Some(rest) = octets.get(written..) else {
@@ -93,141 +93,156 @@ fn write_some<S: Write>(stream: &mut S, octets: &[u8]) -> (usize, Course) {
         };
         match stream.write(rest) {
             Ok(count) if count > 0 => written = written.saturating_add(count),
-            Err(e) if nothing_came(e.kind()) => return (written, Course::GoesOn),
+            Err(e) if nothing_came(e.kind()) => return (written, ClientState::Active),
             _ => break,
         }
     }
-    (written, Course::Leaves)
+    (written, ClientState::Closed)
 }
 
 /// A client: what it said, and what it has of its answer.
 #[derive(Drop)]
-struct Guest<S> {
+struct Client<S> {
     stream: S,
     /// When it came, where the clock said it.
     came: Option<Instant>,
-    question: Vec<u8>,
+    request: Vec<u8>,
     reply: Option<Vec<u8>>,
     written: usize,
 }
 
-impl<S: Read + Write + Drop> Guest<S> {
-    fn new(alloc: Global, stream: S, came: Option<Instant>) -> Guest<S> {
-        Guest {
+impl<S: Read + Write + Drop> Client<S> {
+    fn new(alloc: Global, stream: S, came: Option<Instant>) -> Client<S> {
+        Client {
             stream,
             came,
-            question: Vec::new(alloc),
+            request: Vec::new(alloc),
             reply: None,
             written: 0,
         }
     }
 
     /// Writes of the answer what the client takes.
-    fn say(&mut self) -> Course {
+    fn write_response(&mut self) -> ClientState {
         let Some(reply) = &self.reply else {
-            return Course::GoesOn;
+            return ClientState::Active;
         };
         let Some(rest) = reply.get(self.written..) else {
-            return Course::Leaves;
+            return ClientState::Closed;
         };
-        let (count, course) = write_some(&mut self.stream, rest);
+        let (count, state) = write_some(&mut self.stream, rest);
         self.written = self.written.saturating_add(count);
-        course
+        state
     }
 
     /// Some octets came.
-    fn take<D: Desk>(&mut self, alloc: Global, desk: &D, octets: &[u8]) -> Course {
-        if self.question.extend_from_slice(octets).is_err() || self.question.len() > QUESTION {
-            return Course::Leaves;
+    fn note_octets<D: RequestHandler>(
+        &mut self,
+        alloc: Global,
+        handler: &D,
+        octets: &[u8],
+    ) -> ClientState {
+        if self.request.extend_from_slice(octets).is_err() || self.request.len() > REQUEST_MOST {
+            return ClientState::Closed;
         }
-        match desk.answer(alloc, self.question.as_slice()) {
-            Answer::More => Course::GoesOn,
-            Answer::Octets(reply) => {
+        match handler.answer(alloc, self.request.as_slice()) {
+            Response::NeedMore => ClientState::Active,
+            Response::Octets(reply) => {
                 self.reply = Some(reply);
-                self.say()
+                self.write_response()
             }
-            Answer::Stays => Course::Stays,
-            Answer::Nothing => Course::Leaves,
+            Response::KeepOpen => ClientState::KeptOpen,
+            Response::Close => ClientState::Closed,
         }
     }
 
     /// Reads once.
-    fn hear<D: Desk>(&mut self, alloc: Global, desk: &D) -> Course {
+    fn read_once<D: RequestHandler>(&mut self, alloc: Global, handler: &D) -> ClientState {
         let mut octets = [0; CHUNK];
         match self.stream.read(&mut octets) {
-            Ok(count) if count > 0 => self.take(alloc, desk, &octets[..count.min(CHUNK)]),
-            Err(e) if nothing_came(e.kind()) => Course::GoesOn,
-            _ => Course::Leaves,
+            Ok(count) if count > 0 => self.note_octets(alloc, handler, &octets[..count.min(CHUNK)]),
+            Err(e) if nothing_came(e.kind()) => ClientState::Active,
+            _ => ClientState::Closed,
         }
     }
 
     /// Goes on with the client, unless it has taken too long.
-    fn go_on<D: Desk>(&mut self, alloc: Global, desk: &D, now: Option<Instant>) -> Course {
+    fn advance<D: RequestHandler>(
+        &mut self,
+        alloc: Global,
+        handler: &D,
+        now: Option<Instant>,
+    ) -> ClientState {
         if let (Some(came), Some(now)) = (self.came, now) {
-            if now.saturating_duration_since(came) > Duration::from_secs(PATIENCE) {
-                return Course::Leaves;
+            if now.saturating_duration_since(came) > Duration::from_secs(TIMEOUT) {
+                return ClientState::Closed;
             }
         }
         if self.reply.is_some() {
-            self.say()
+            self.write_response()
         } else {
-            self.hear(alloc, desk)
+            self.read_once(alloc, handler)
         }
     }
 }
 
 /// The clients that ask, the one that came first at the front, and those that stay.
 #[derive(Drop)]
-struct Guests<S> {
-    asking: VecDeque<Guest<S>>,
-    staying: Vec<Guest<S>>,
+struct Clients<S> {
+    active: VecDeque<Client<S>>,
+    kept_open: Vec<Client<S>>,
 }
 
-impl<S: Read + Write + Drop> Guests<S> {
+impl<S: Read + Write + Drop> Clients<S> {
     /// A client came. One that finds no memory is left.
-    fn enter(&mut self, guest: Guest<S>) {
-        if self.asking.len() >= GUESTS_MOST {
-            self.asking.pop_front();
+    fn add(&mut self, client: Client<S>) {
+        if self.active.len() >= CLIENTS_MOST {
+            self.active.pop_front();
         }
-        let _ = self.asking.push_back(guest);
+        let _ = self.active.push_back(client);
     }
 
     /// Goes on with each client.
-    fn go_round<D: Desk>(&mut self, alloc: Global, desk: &D, now: Option<Instant>) {
-        for _ in 0..self.asking.len() {
-            let Some(mut guest) = self.asking.pop_front() else {
+    fn advance_all<D: RequestHandler>(&mut self, alloc: Global, handler: &D, now: Option<Instant>) {
+        for _ in 0..self.active.len() {
+            let Some(mut client) = self.active.pop_front() else {
                 break;
             };
-            match guest.go_on(alloc, desk, now) {
-                Course::GoesOn => {
-                    let _ = self.asking.push_back(guest);
+            match client.advance(alloc, handler, now) {
+                ClientState::Active => {
+                    let _ = self.active.push_back(client);
                 }
-                Course::Stays => {
-                    let _ = self.staying.push(guest);
+                ClientState::KeptOpen => {
+                    let _ = self.kept_open.push(client);
                 }
-                Course::Leaves => {}
+                ClientState::Closed => {}
             }
         }
     }
 }
 
 /// Answers each client that comes, as long as the program runs. It waits for the next client while no one asks, and else looks for one between its looks at the others.
-pub fn serve_guests<R: Clock, G: Gate, D: Desk>(rt: &R, alloc: Global, gate: &G, desk: &D) {
-    let mut guests = Guests {
-        asking: VecDeque::new(alloc),
-        staying: Vec::new(alloc),
+pub fn serve_clients<R: Clock, G: ClientListener, D: RequestHandler>(
+    rt: &R,
+    alloc: Global,
+    listener: &G,
+    handler: &D,
+) {
+    let mut clients = Clients {
+        active: VecDeque::new(alloc),
+        kept_open: Vec::new(alloc),
     };
     for _ in 0..u64::MAX {
-        let may_wait = guests.asking.is_empty();
-        match gate.accept(may_wait) {
-            Ok(stream) => guests.enter(Guest::new(alloc, stream, Instant::now(rt).ok())),
+        let may_wait = clients.active.is_empty();
+        match listener.accept(may_wait) {
+            Ok(stream) => clients.add(Client::new(alloc, stream, Instant::now(rt).ok())),
             Err(e) if nothing_came(e.kind()) => {
                 if !may_wait {
                     thread::sleep(rt, Duration::from_millis(PAUSE));
                 }
             }
-            Err(_) => thread::sleep(rt, Duration::from_millis(WITHOUT_ROOM)),
+            Err(_) => thread::sleep(rt, Duration::from_millis(RETRY_AFTER)),
         }
-        guests.go_round(alloc, desk, Instant::now(rt).ok());
+        clients.advance_all(alloc, handler, Instant::now(rt).ok());
     }
 }

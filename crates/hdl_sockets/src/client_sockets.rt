@@ -1,6 +1,6 @@
 //! The sockets of a crowd, by place, and which of them may have something.
 
-use crate::introduction::Introduction;
+use crate::introduction::ProxyHeader;
 use hdl_proxied::HeaderStep;
 use mio::net::TcpStream;
 use std::alloc::{AllocError, Global};
@@ -14,19 +14,19 @@ struct ClientSocket {
     stream: TcpStream,
     is_queued: bool,
     /// The header that is awaited before anything else, if the socket is a proxy's.
-    introduction: Option<Introduction>,
+    proxy_header: Option<ProxyHeader>,
     /// The client that a proxy named.
     client: Option<SocketAddr>,
 }
 
 impl ClientSocket {
     /// Reads on in the header that is awaited. None: none is.
-    fn hear_introduction(&mut self) -> Option<io::Result<HeaderStep>> {
-        let introduction = self.introduction.as_mut()?;
-        let step = introduction.read_on(&mut self.stream);
+    fn read_proxy_header(&mut self) -> Option<io::Result<HeaderStep>> {
+        let proxy_header = self.proxy_header.as_mut()?;
+        let step = proxy_header.read_on(&mut self.stream);
         if let Ok(HeaderStep::Whole(client)) = step {
             self.client = client;
-            self.introduction = None;
+            self.proxy_header = None;
         }
         Some(step)
     }
@@ -34,25 +34,25 @@ impl ClientSocket {
 
 /// Sockets by place, and a queue of places at which something may stand next.
 #[derive(Drop)]
-pub struct Wires {
-    wires: Vec<Option<ClientSocket>>,
+pub struct ClientSockets {
+    sockets: Vec<Option<ClientSocket>>,
     queue: VecDeque<usize>,
     /// Whether a socket was closed for want of memory.
-    has_lost: bool,
+    has_dropped: bool,
 }
 
-impl Wires {
-    pub fn new(alloc: Global) -> Wires {
-        Wires {
-            wires: Vec::new(alloc),
+impl ClientSockets {
+    pub fn new(alloc: Global) -> ClientSockets {
+        ClientSockets {
+            sockets: Vec::new(alloc),
             queue: VecDeque::new(alloc),
-            has_lost: false,
+            has_dropped: false,
         }
     }
 
     /// How many places there were.
     pub fn places(&self) -> usize {
-        self.wires.len()
+        self.sockets.len()
     }
 
     /// Puts a socket at this place, which begins with a header if one is awaited.
@@ -60,17 +60,17 @@ impl Wires {
         &mut self,
         place: usize,
         stream: TcpStream,
-        introduction: Option<Introduction>,
+        proxy_header: Option<ProxyHeader>,
     ) -> Result<(), AllocError> {
-        let missing = place.saturating_add(1).saturating_sub(self.wires.len());
+        let missing = place.saturating_add(1).saturating_sub(self.sockets.len());
         for _ in 0..missing {
-            self.wires.push(None)?;
+            self.sockets.push(None)?;
         }
-        if let Some(slot) = self.wires.get_mut(place) {
+        if let Some(slot) = self.sockets.get_mut(place) {
             *slot = Some(ClientSocket {
                 stream,
                 is_queued: false,
-                introduction,
+                proxy_header,
                 client: None,
             });
         }
@@ -79,77 +79,77 @@ impl Wires {
 
     /// The socket at this place.
     pub fn stream(&mut self, place: usize) -> Option<&mut TcpStream> {
-        match self.wires.get_mut(place) {
-            Some(Some(wire)) => Some(&mut wire.stream),
+        match self.sockets.get_mut(place) {
+            Some(Some(socket)) => Some(&mut socket.stream),
             _ => None,
         }
     }
 
     /// Reads on in the header that is awaited at this place. None: none is.
-    pub fn hear_introduction(&mut self, place: usize) -> Option<io::Result<HeaderStep>> {
-        match self.wires.get_mut(place) {
-            Some(Some(wire)) => wire.hear_introduction(),
+    pub fn read_proxy_header(&mut self, place: usize) -> Option<io::Result<HeaderStep>> {
+        match self.sockets.get_mut(place) {
+            Some(Some(socket)) => socket.read_proxy_header(),
             _ => None,
         }
     }
 
     /// Whence the socket at this place comes: the client that a proxy named, or its peer.
     pub fn client(&self, place: usize) -> Option<SocketAddr> {
-        match self.wires.get(place) {
-            Some(Some(wire)) => wire.client.or(wire.stream.peer_addr().ok()),
+        match self.sockets.get(place) {
+            Some(Some(socket)) => socket.client.or(socket.stream.peer_addr().ok()),
             _ => None,
         }
     }
 
     /// Closes the socket at this place.
     pub fn close(&mut self, place: usize) {
-        if let Some(slot) = self.wires.get_mut(place) {
+        if let Some(slot) = self.sockets.get_mut(place) {
             *slot = None;
         }
     }
 
     /// Whether something may stand next at this place.
     pub fn is_queued(&self, place: usize) -> bool {
-        match self.wires.get(place) {
-            Some(Some(wire)) => wire.is_queued,
+        match self.sockets.get(place) {
+            Some(Some(socket)) => socket.is_queued,
             _ => false,
         }
     }
 
     /// Something may stand next at this place, once however often this is said. Where memory for that is refused the socket is closed.
     pub fn queue(&mut self, place: usize) {
-        let Some(slot) = self.wires.get_mut(place) else {
+        let Some(slot) = self.sockets.get_mut(place) else {
             return;
         };
-        let Some(wire) = slot else {
+        let Some(socket) = slot else {
             return;
         };
-        if wire.is_queued {
+        if socket.is_queued {
             return;
         }
         if self.queue.push_back(place).is_ok() {
-            wire.is_queued = true;
+            socket.is_queued = true;
         } else {
             *slot = None;
-            self.has_lost = true;
+            self.has_dropped = true;
         }
     }
 
     /// Whether a socket was ever closed for want of memory.
-    pub fn has_lost(&self) -> bool {
-        self.has_lost
+    pub fn has_dropped(&self) -> bool {
+        self.has_dropped
     }
 
     /// Whether nothing is known to stand anywhere.
-    pub fn is_quiet(&self) -> bool {
+    pub fn is_queue_empty(&self) -> bool {
         self.queue.is_empty()
     }
 
     /// The place that has waited longest.
-    pub fn next(&mut self) -> Option<usize> {
+    pub fn next_queued(&mut self) -> Option<usize> {
         let place = self.queue.pop_front()?;
-        if let Some(Some(wire)) = self.wires.get_mut(place) {
-            wire.is_queued = false;
+        if let Some(Some(socket)) = self.sockets.get_mut(place) {
+            socket.is_queued = false;
         }
         Some(place)
     }

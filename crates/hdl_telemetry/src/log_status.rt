@@ -12,13 +12,13 @@ const OCTETS_MOST: u64 = 131_072;
 const LOSING: &str =
     "log: lines are lost: the log's reader or its disk is too slow. Changes are answered as before; how many lines were lost is said here once they are written again\n";
 
-const UNOPENED: &str =
+const REOPEN_FAILED: &str =
     "log: the file can't be opened anew, so lines go on into the one that is open: see that the program may write in its folder, and ask again\n";
 
 const FAILING: &str =
     "log: a line can't be written: the disk may be full. Changes are answered as before; their lines are lost until there is room";
 
-/// How many octets of a lane's lines wait to be written. The lane's voice and the thread that writes share it.
+/// How many octets of a lane's lines wait to be written. The lane's sender and the thread that writes share it.
 #[derive(Drop)]
 pub(crate) struct Backlog {
     octets: AtomicU64,
@@ -33,57 +33,57 @@ impl Backlog {
     }
 
     /// Takes room for octets that are to wait too. False: there is no room for them.
-    pub(crate) fn enters(&self, octets: u64) -> bool {
+    pub(crate) fn reserve(&self, octets: u64) -> bool {
         let before = self.octets.fetch_add(octets, SeqCst);
         let has_room = before.saturating_add(octets) <= OCTETS_MOST;
         if !has_room {
-            self.leaves(octets);
+            self.release(octets);
         }
         has_room
     }
 
     /// Gives the room back of octets that wait no more.
-    pub(crate) fn leaves(&self, octets: u64) {
+    pub(crate) fn release(&self, octets: u64) {
         self.octets.fetch_sub(octets, SeqCst);
     }
 }
 
-/// How many lines were lost, and what is said of that; whether the file is to be opened anew; whether more lines come, and whether all are written. Voices, the thread that writes, the
+/// How many lines were lost, and what is said of that; whether the file is to be opened anew; whether more lines come, and whether all are written. Senders, the thread that writes, the
 /// one that tells and who opens the file share it.
 #[derive(Drop)]
-pub struct Flow {
+pub struct LogStatus {
     lost: AtomicU64,
     /// How many lost lines may be reported, and how many were.
-    shown: AtomicU64,
-    told: AtomicU64,
+    to_report: AtomicU64,
+    reported: AtomicU64,
     /// Whether it was said that lines are lost, since the last report.
     is_losing: AtomicBool,
     failing: Notice,
     /// Whether the file is to be opened anew, and whether it couldn't be.
-    is_asked: AtomicBool,
-    is_unopened: AtomicBool,
-    is_over: AtomicBool,
+    is_reopen_requested: AtomicBool,
+    has_reopen_failed: AtomicBool,
+    has_ended: AtomicBool,
     is_written: AtomicBool,
 }
 
-impl Flow {
-    /// A flow of which no line was lost.
-    pub(crate) fn new(alloc: Global) -> Result<Flow, AllocError> {
-        Ok(Flow {
+impl LogStatus {
+    /// The status of a log of which no line was lost.
+    pub(crate) fn new(alloc: Global) -> Result<LogStatus, AllocError> {
+        Ok(LogStatus {
             lost: AtomicU64::new(0),
-            shown: AtomicU64::new(0),
-            told: AtomicU64::new(0),
+            to_report: AtomicU64::new(0),
+            reported: AtomicU64::new(0),
             is_losing: AtomicBool::new(false),
             failing: Notice::new(alloc, FAILING)?,
-            is_asked: AtomicBool::new(false),
-            is_unopened: AtomicBool::new(false),
-            is_over: AtomicBool::new(false),
+            is_reopen_requested: AtomicBool::new(false),
+            has_reopen_failed: AtomicBool::new(false),
+            has_ended: AtomicBool::new(false),
             is_written: AtomicBool::new(false),
         })
     }
 
     /// A line is lost.
-    pub(crate) fn lose(&self) {
+    pub(crate) fn count_lost(&self) {
         self.lost.fetch_add(1, SeqCst);
     }
 
@@ -95,36 +95,38 @@ impl Flow {
     /// A line couldn't be written. The reason is raised first, so that it is what is said of the loss.
     pub(crate) fn fail(&self) {
         self.failing.raise();
-        self.lose();
+        self.count_lost();
     }
 
     /// Lines are written again: from now on the number of lost lines is to be reported.
-    pub(crate) fn show_lost(&self) {
-        self.shown.store(self.lost(), SeqCst);
+    pub(crate) fn report_lost(&self) {
+        self.to_report.store(self.lost(), SeqCst);
     }
 
     /// How many lines were lost since the last report.
-    fn untold(&self) -> u64 {
-        self.shown.load(SeqCst).wrapping_sub(self.told.load(SeqCst))
+    fn unreported(&self) -> u64 {
+        self.to_report
+            .load(SeqCst)
+            .wrapping_sub(self.reported.load(SeqCst))
     }
 
     /// Whether lines are lost of which nothing was said yet.
-    fn begins_to_lose(&self) -> bool {
-        self.lost() != self.told.load(SeqCst) && !self.is_losing.load(SeqCst)
+    fn has_new_loss(&self) -> bool {
+        self.lost() != self.reported.load(SeqCst) && !self.is_losing.load(SeqCst)
     }
 
     /// Whether a line is still to be printed.
     pub fn has_due(&self) -> bool {
         self.failing.is_due()
-            || self.begins_to_lose()
-            || self.untold() > 0
-            || self.is_unopened.load(SeqCst)
+            || self.has_new_loss()
+            || self.unreported() > 0
+            || self.has_reopen_failed.load(SeqCst)
     }
 
     /// Says that lines are lost, by the reason if it is known.
-    fn say_losing<R: Eprint>(&self, rt: &R) {
+    fn print_losing<R: Eprint>(&self, rt: &R) {
         if self.failing.is_due() {
-            self.failing.say_if_due(rt);
+            self.failing.print_if_due(rt);
         } else {
             let _ = eprint!(rt; "{LOSING}");
         }
@@ -132,50 +134,50 @@ impl Flow {
     }
 
     /// Says how many lines were lost since the last report.
-    fn say_lost<R: Eprint>(&self, rt: &R, more: u64) {
+    fn print_lost<R: Eprint>(&self, rt: &R, more: u64) {
         let _ = eprint!(rt;
             "log: {more} lines were lost: the log's reader was too slow, or the disk was full. Their changes were answered as before\n"
         );
-        self.told.fetch_add(more, SeqCst);
+        self.reported.fetch_add(more, SeqCst);
         self.is_losing.store(false, SeqCst);
     }
 
     /// Says on standard error what is due. One thread alone does.
-    pub fn say_due<R: Eprint>(&self, rt: &R) {
-        let more = self.untold();
-        if self.failing.is_due() || more == 0 && self.begins_to_lose() {
-            self.say_losing(rt);
+    pub fn print_due<R: Eprint>(&self, rt: &R) {
+        let more = self.unreported();
+        if self.failing.is_due() || more == 0 && self.has_new_loss() {
+            self.print_losing(rt);
         }
         if more > 0 {
-            self.say_lost(rt, more);
+            self.print_lost(rt, more);
         }
-        if self.is_unopened.swap(false, SeqCst) {
-            let _ = eprint!(rt; "{UNOPENED}");
+        if self.has_reopen_failed.swap(false, SeqCst) {
+            let _ = eprint!(rt; "{REOPEN_FAILED}");
         }
     }
 
     /// Asks for the file to be opened anew.
-    pub fn ask_anew(&self) {
-        self.is_asked.store(true, SeqCst);
+    pub fn request_reopen(&self) {
+        self.is_reopen_requested.store(true, SeqCst);
     }
 
     /// Whether that was asked for since the last look.
-    pub(crate) fn takes_word(&self) -> bool {
-        self.is_asked.swap(false, SeqCst)
+    pub(crate) fn take_reopen_request(&self) -> bool {
+        self.is_reopen_requested.swap(false, SeqCst)
     }
 
     /// The file couldn't be opened anew.
-    pub(crate) fn miss_file(&self) {
-        self.is_unopened.store(true, SeqCst);
+    pub(crate) fn note_reopen_failed(&self) {
+        self.has_reopen_failed.store(true, SeqCst);
     }
 
     /// Notes that no more lines come.
     pub fn end(&self) {
-        self.is_over.store(true, SeqCst);
+        self.has_ended.store(true, SeqCst);
     }
 
-    pub(crate) fn is_over(&self) -> bool {
-        self.is_over.load(SeqCst)
+    pub(crate) fn has_ended(&self) -> bool {
+        self.has_ended.load(SeqCst)
     }
 
     pub(crate) fn set_written(&self) {

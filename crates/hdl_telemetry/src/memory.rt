@@ -6,7 +6,7 @@ use std::alloc::{AllocError, Global};
 const PIECES: usize = 128;
 
 /// An allocation that nothing is written to.
-fn room_for(alloc: Global, octets: usize) -> Result<Vec<u8>, AllocError> {
+fn allocate(alloc: Global, octets: usize) -> Result<Vec<u8>, AllocError> {
     Vec::with_capacity(alloc, octets)
 }
 
@@ -14,7 +14,7 @@ fn room_for(alloc: Global, octets: usize) -> Result<Vec<u8>, AllocError> {
 fn has_pieces(alloc: Global, octets: usize) -> bool {
     let mut pieces = Vec::new(alloc);
     for _ in 0..PIECES {
-        let Ok(piece) = room_for(alloc, octets) else {
+        let Ok(piece) = allocate(alloc, octets) else {
             return false;
         };
         if pieces.push(piece).is_err() {
@@ -25,6 +25,6 @@ fn has_pieces(alloc: Global, octets: usize) -> bool {
 }
 
 /// Whether this many octets can be had, in one piece or in a hundred. They are given back at once.
-pub fn has_room(alloc: Global, octets: usize) -> bool {
-    room_for(alloc, octets).is_ok() || has_pieces(alloc, octets / PIECES)
+pub fn can_allocate(alloc: Global, octets: usize) -> bool {
+    allocate(alloc, octets).is_ok() || has_pieces(alloc, octets / PIECES)
 }

@@ -1,4 +1,4 @@
-//! The sleep of the thread that serves, the bell that ends it, and how long calls may wait.
+//! The sleep of the thread that serves, the waker that ends it, and how long calls may wait.
 
 use mio::{Events, Poll, Token, Waker};
 use std::alloc::Global;
@@ -10,25 +10,25 @@ use std::sync::atomic::Ordering::SeqCst;
 use std::time::Duration;
 
 /// The token of the one source of a sleep.
-const RUNG: Token = Token(0);
+const WAKE_TOKEN: Token = Token(0);
 
 /// How long a call may wait: a worker's for a connection or a datagram, and the thread that serves for an event.
 #[derive(Clone, Copy)]
-pub struct Patience {
+pub struct CallTimeouts {
     pub door: Duration,
     pub events: Duration,
 }
 
-impl Patience {
+impl CallTimeouts {
     /// A server whose turns are counted is one of a test, so its turns shall not take long.
-    pub fn of(turns: u64) -> Patience {
+    pub fn of(turns: u64) -> CallTimeouts {
         if turns == u64::MAX {
-            Patience {
+            CallTimeouts {
                 door: Duration::from_secs(1),
                 events: Duration::from_millis(100),
             }
         } else {
-            Patience {
+            CallTimeouts {
                 door: Duration::from_millis(1),
                 events: Duration::from_millis(1),
             }
@@ -38,59 +38,59 @@ impl Patience {
 
 /// By this a worker ends the sleep of the thread that serves.
 #[derive(Drop)]
-pub struct Bell {
-    sleeps: AtomicBool,
+pub struct LoopWaker {
+    is_sleeping: AtomicBool,
     waker: Waker,
 }
 
-impl Bell {
-    /// Ends the sleep, if there is one. A worker that waits for an outcome rings at each of its pauses, so a sleep that began
+impl LoopWaker {
+    /// Ends the sleep, if there is one. A worker that waits for an outcome calls this at each of its pauses, so a sleep that began
     /// between two looks at the lanes ends at the next pause. One of several workers makes the call of the system; where it fails
-    /// the next ring tries again.
-    pub fn ring(&self) {
-        let is_mine = self.sleeps.load(SeqCst) && self.sleeps.swap(false, SeqCst);
+    /// the next call tries again.
+    pub fn wake(&self) {
+        let is_mine = self.is_sleeping.load(SeqCst) && self.is_sleeping.swap(false, SeqCst);
         if is_mine && self.waker.wake().is_err() {
-            self.sleeps.store(true, SeqCst);
+            self.is_sleeping.store(true, SeqCst);
         }
     }
 }
 
 /// The sleep of the thread that serves.
 #[derive(Drop)]
-pub struct Sleep {
+pub struct IdlePoll {
     poll: Poll,
     events: Events,
-    bell: Arc<Bell>,
+    waker: Arc<LoopWaker>,
     most: Duration,
 }
 
-impl Sleep {
+impl IdlePoll {
     /// A sleep that ends by itself after this time.
-    pub fn new<R: Net>(rt: &R, alloc: Global, most: Duration) -> io::Result<Sleep> {
+    pub fn new<R: Net>(rt: &R, alloc: Global, most: Duration) -> io::Result<IdlePoll> {
         let poll = Poll::new(rt)?;
-        let waker = Waker::new(poll.registry(), RUNG)?;
-        let bell = Bell {
-            sleeps: AtomicBool::new(false),
+        let waker = Waker::new(poll.registry(), WAKE_TOKEN)?;
+        let loop_waker = LoopWaker {
+            is_sleeping: AtomicBool::new(false),
             waker,
         };
-        Ok(Sleep {
+        Ok(IdlePoll {
             events: Events::with_capacity(alloc, 1)?,
-            bell: Arc::new(alloc, bell)?,
+            waker: Arc::new(alloc, loop_waker)?,
             poll,
             most,
         })
     }
 
-    /// The bell, for a worker.
-    pub fn bell(&self) -> io::Result<Arc<Bell>> {
-        Ok(Arc::try_clone(&self.bell)?)
+    /// The waker, for a worker.
+    pub fn waker(&self) -> io::Result<Arc<LoopWaker>> {
+        Ok(Arc::try_clone(&self.waker)?)
     }
 
-    /// Sleeps until a worker rings or the time is up. Whether it could.
-    pub fn rest(&mut self) -> bool {
-        self.bell.sleeps.store(true, SeqCst);
+    /// Sleeps until a worker wakes it or the time is up. Whether it could.
+    pub fn wait(&mut self) -> bool {
+        self.waker.is_sleeping.store(true, SeqCst);
         let slept = self.poll.poll(&mut self.events, Some(self.most)).is_ok();
-        self.bell.sleeps.store(false, SeqCst);
+        self.waker.is_sleeping.store(false, SeqCst);
         slept
     }
 }

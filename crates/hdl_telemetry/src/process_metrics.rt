@@ -21,7 +21,7 @@ const LINE: usize = 256;
 
 /// What a server takes of the machine, as it was seen last: 0 where that isn't known. Who looks and what shows it share it.
 #[derive(Drop)]
-pub struct Vitals {
+pub struct ProcessMetrics {
     memory: AtomicU64,
     descriptors: AtomicU64,
     file: AtomicU64,
@@ -49,10 +49,10 @@ fn descriptors<R: Files>(rt: &R) -> io::Result<u64> {
     Ok(fs::metadata(rt, DESCRIPTORS)?.size())
 }
 
-impl Vitals {
+impl ProcessMetrics {
     /// Nothing is known yet.
-    pub fn new() -> Vitals {
-        Vitals {
+    pub fn new() -> ProcessMetrics {
+        ProcessMetrics {
             memory: AtomicU64::new(0),
             descriptors: AtomicU64::new(0),
             file: AtomicU64::new(0),
@@ -61,7 +61,7 @@ impl Vitals {
     }
 
     /// Looks at the process.
-    pub fn look<R: Files>(&self, rt: &R) {
+    pub fn update<R: Files>(&self, rt: &R) {
         self.memory.store(memory(rt).unwrap_or(0), SeqCst);
         self.descriptors.store(descriptors(rt).unwrap_or(0), SeqCst);
     }

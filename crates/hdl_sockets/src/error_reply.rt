@@ -45,7 +45,7 @@ fn digest_at(body: &[u8]) -> Option<Digest> {
 }
 
 /// The one datagram in place of a reply that begins with this one. None where it is no beginning of a reply, or memory is refused.
-pub fn too_long(alloc: Global, first: &[u8]) -> Option<Vec<u8>> {
+pub fn too_long_reply(alloc: Global, first: &[u8]) -> Option<Vec<u8>> {
     let (envelope, message) = first.split_first_chunk::<ENVELOPE_LEN>()?;
     let envelope = Envelope::read(envelope);
     let (header, body) = header_and_body(message)?;

@@ -13,14 +13,14 @@ const READY: Token = Token(0);
 
 /// Tells whether one of several sockets is ready.
 #[derive(Drop)]
-pub struct Lookout {
+pub struct SocketPoll {
     poll: Poll,
     events: Events,
 }
 
-impl Lookout {
-    pub fn new<R: Net>(rt: &R, alloc: Global) -> io::Result<Lookout> {
-        Ok(Lookout {
+impl SocketPoll {
+    pub fn new<R: Net>(rt: &R, alloc: Global) -> io::Result<SocketPoll> {
+        Ok(SocketPoll {
             poll: Poll::new(rt)?,
             events: Events::with_capacity(alloc, 1)?,
         })
@@ -28,7 +28,7 @@ impl Lookout {
 
     /// Registers these sockets for good, of a look that has no others. A thread that alone takes from them, and takes all that came before it waits, needs no
     /// more.
-    pub fn watch<S: AsRawFd>(&mut self, sockets: &[S]) -> io::Result<()> {
+    pub fn register_all<S: AsRawFd>(&mut self, sockets: &[S]) -> io::Result<()> {
         for socket in sockets {
             let descriptor = socket.as_raw_fd();
             let mut source = SourceFd(&descriptor);
@@ -40,14 +40,14 @@ impl Lookout {
     }
 
     /// Whether something came for one of the sockets that are watched since all was taken; waits at most `most`.
-    pub fn waits(&mut self, most: Duration) -> bool {
+    pub fn wait_registered(&mut self, most: Duration) -> bool {
         let looked = self.poll.poll(&mut self.events, Some(most));
         looked.is_ok() && !self.events.is_empty()
     }
 
     /// Whether one of the sockets is ready; waits at most `most`. They are registered for this one look: one that was
     /// ready before is reported then, and what comes between two looks wakes no thread.
-    pub fn sees<S: AsRawFd>(&mut self, sockets: &[S], most: Duration) -> bool {
+    pub fn wait_ready<S: AsRawFd>(&mut self, sockets: &[S], most: Duration) -> bool {
         for socket in sockets {
             let descriptor = socket.as_raw_fd();
             let mut source = SourceFd(&descriptor);

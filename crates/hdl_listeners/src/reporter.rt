@@ -1,6 +1,6 @@
 //! What a server says of itself on standard error while it serves.
 
-use hdl_telemetry::{Flow, Health, Notice};
+use hdl_telemetry::{Health, LogStatus, Notice};
 use std::alloc::AllocError;
 use std::rt::Clock;
 use std::sync::Arc;
@@ -12,27 +12,27 @@ const PAUSE: u64 = 50;
 
 /// What may have to be said: of the table, of the bounds of publishers, and of the log, where there is one.
 #[derive(Drop)]
-pub struct Telling {
+pub struct Reporter {
     pub health: Arc<Health>,
     pub bounds: Arc<Vec<Notice>>,
-    pub log: Option<Arc<Flow>>,
+    pub log: Option<Arc<LogStatus>>,
 }
 
-/// A second handle of the log's flow, if there is a log.
-fn flow_clone(flow: &Option<Arc<Flow>>) -> Result<Option<Arc<Flow>>, AllocError> {
-    match flow {
-        Some(flow) => Ok(Some(Arc::try_clone(flow)?)),
+/// A second handle of the log's status, if there is a log.
+fn log_status_clone(status: &Option<Arc<LogStatus>>) -> Result<Option<Arc<LogStatus>>, AllocError> {
+    match status {
+        Some(status) => Ok(Some(Arc::try_clone(status)?)),
         None => Ok(None),
     }
 }
 
-impl Telling {
+impl Reporter {
     /// A second handle of the same.
-    pub fn try_clone(&self) -> Result<Telling, AllocError> {
-        Ok(Telling {
+    pub fn try_clone(&self) -> Result<Reporter, AllocError> {
+        Ok(Reporter {
             health: Arc::try_clone(&self.health)?,
             bounds: Arc::try_clone(&self.bounds)?,
-            log: flow_clone(&self.log)?,
+            log: log_status_clone(&self.log)?,
         })
     }
 
@@ -40,42 +40,42 @@ impl Telling {
     pub fn has_due(&self) -> bool {
         let is_due = self.health.has_due() || self.bounds.iter().any(|notice| notice.is_due());
         match &self.log {
-            Some(flow) => is_due || flow.has_due(),
+            Some(status) => is_due || status.has_due(),
             None => is_due,
         }
     }
 
     /// Notes that no more lines of the log come.
     pub fn end_log(&self) {
-        if let Some(flow) = &self.log {
-            flow.end();
+        if let Some(status) = &self.log {
+            status.end();
         }
     }
 
     /// Whether the last lines of the log are written, where there is one.
     pub fn is_log_written(&self) -> bool {
         match &self.log {
-            Some(flow) => flow.is_written(),
+            Some(status) => status.is_written(),
             None => true,
         }
     }
 
     /// Says what is due.
-    fn say_due<R: Eprint>(&self, rt: &R) {
-        self.health.say_due(rt);
+    fn print_due<R: Eprint>(&self, rt: &R) {
+        self.health.print_due(rt);
         for notice in self.bounds.iter() {
-            notice.say_if_due(rt);
+            notice.print_if_due(rt);
         }
-        if let Some(flow) = &self.log {
-            flow.say_due(rt);
+        if let Some(status) = &self.log {
+            status.print_due(rt);
         }
     }
 }
 
 /// Says what is due, as long as the program runs.
-pub fn tell<R: Clock + Eprint>(rt: &R, telling: &Telling) {
+pub fn run_reporter<R: Clock + Eprint>(rt: &R, reporter: &Reporter) {
     for _ in 0..u64::MAX {
-        telling.say_due(rt);
+        reporter.print_due(rt);
         thread::sleep(rt, Duration::from_millis(PAUSE));
     }
 }

@@ -1,7 +1,7 @@
 //! Since when the connections of a publisher are silent, and whether a client waits for one of its lanes.
 
-use crate::ending::Ending;
-use crate::introduction::Introduction;
+use crate::introduction::ProxyHeader;
+use crate::shutdown_flag::ShutdownFlag;
 use crate::sockets::Sockets;
 use mio::unix::SourceFd;
 use mio::{Interest, Poll, Token};
@@ -22,18 +22,18 @@ const BUSY: u64 = u64::MAX;
 
 /// Since when the lane at each place is silent, in milliseconds of all their clocks, or `FREE` or `BUSY`.
 #[derive(Drop)]
-struct Silences {
+struct IdleTimes {
     since: Vec<AtomicU64>,
 }
 
-impl Silences {
+impl IdleTimes {
     /// `lanes` lanes, all free.
-    fn new(alloc: Global, lanes: usize) -> io::Result<Silences> {
+    fn new(alloc: Global, lanes: usize) -> io::Result<IdleTimes> {
         let mut since = Vec::with_capacity(alloc, lanes)?;
         for _ in 0..lanes {
             since.push(AtomicU64::new(FREE))?;
         }
-        Ok(Silences { since })
+        Ok(IdleTimes { since })
     }
 
     /// The lane at this place is silent since this moment.
@@ -44,7 +44,7 @@ impl Silences {
     }
 
     /// Whether another lane than that at this place is free.
-    fn has_free_beside(&self, place: usize) -> bool {
+    fn has_other_free(&self, place: usize) -> bool {
         let mut others = self.since.iter().enumerate();
         others.any(|(other, since)| other != place && since.load(SeqCst) == FREE)
     }
@@ -59,11 +59,11 @@ impl Silences {
     }
 }
 
-/// The place of a stream lane among those of its publisher.
+/// The listeners of a publisher, as one of its stream lanes has them, and how that lane stands among the others.
 #[derive(Drop)]
-pub struct Seat {
+pub struct LaneListener {
     listeners: Sockets<TcpListener>,
-    silences: Arc<Silences>,
+    idle_times: Arc<IdleTimes>,
     place: usize,
     /// When the publisher's clocks began.
     start: Instant,
@@ -71,13 +71,13 @@ pub struct Seat {
     idle: u64,
     /// Since when the connection is silent.
     since: u64,
-    ending: Arc<Ending>,
+    shutdown: Arc<ShutdownFlag>,
     /// The proxy that says for which its connections speak.
     proxied: Option<IpAddr>,
     alloc: Global,
 }
 
-impl Seat {
+impl LaneListener {
     /// How many milliseconds after the start it is, from 1 on. A clock that fails says the last moment again.
     pub fn moment<R: std::rt::Clock>(&self, rt: &R) -> u64 {
         match Instant::now(rt) {
@@ -91,51 +91,51 @@ impl Seat {
 
     /// Notes that the lane has no connection.
     pub fn set_free(&mut self) {
-        self.silences.put(self.place, FREE);
+        self.idle_times.put(self.place, FREE);
     }
 
     /// The lane is at work, or is no more.
     pub fn set_busy(&mut self) {
-        self.silences.put(self.place, BUSY);
+        self.idle_times.put(self.place, BUSY);
     }
 
     /// The connection is silent since this moment.
     pub fn set_silent(&mut self, moment: u64) {
         self.since = moment;
-        self.silences.put(self.place, moment);
+        self.idle_times.put(self.place, moment);
     }
 
     /// Whether the server is asked to end.
     pub fn is_ending(&self) -> bool {
-        self.ending.is_asked()
+        self.shutdown.is_requested()
     }
 
     /// The header with which a connection of this peer has to begin, if the peer is the proxy.
-    pub fn introduction_of(&self, peer: Option<SocketAddr>) -> Option<Introduction> {
+    pub fn proxy_header_of(&self, peer: Option<SocketAddr>) -> Option<ProxyHeader> {
         let peer = peer?.ip().to_canonical();
         let proxy = self.proxied?.to_canonical();
         if peer == proxy {
-            Some(Introduction::new(self.alloc))
+            Some(ProxyHeader::new(self.alloc))
         } else {
             None
         }
     }
 
     /// Whether another lane of the publisher is free.
-    pub fn has_free_neighbour(&self) -> bool {
-        self.silences.has_free_beside(self.place)
+    pub fn has_other_free_lane(&self) -> bool {
+        self.idle_times.has_other_free(self.place)
     }
 
     /// Whether a client waits at one of the publisher's addresses.
-    pub fn sees_client(&mut self) -> bool {
-        self.listeners.has_more()
+    pub fn poll_for_client(&mut self) -> bool {
+        self.listeners.poll_now()
     }
 
     /// Whether the silent connection has to make room: it is silent for too long, longest among all of its publisher, and a client waits.
-    pub fn makes_room(&mut self, now: u64) -> bool {
+    pub fn must_make_room(&mut self, now: u64) -> bool {
         now.saturating_sub(self.since) >= self.idle
-            && self.silences.is_longest(self.place, self.since)
-            && self.sees_client()
+            && self.idle_times.is_longest(self.place, self.since)
+            && self.poll_for_client()
     }
 
     /// A connection that came at one of the publisher's addresses. It may wait for one for a while.
@@ -159,7 +159,7 @@ impl Seat {
     }
 
     /// Has a poll tell by this token of clients that come at the publisher's addresses.
-    pub fn tell_of_clients(&self, poll: &Poll, token: Token) -> io::Result<()> {
+    pub fn register_with(&self, poll: &Poll, token: Token) -> io::Result<()> {
         for listener in self.listeners.all() {
             let descriptor = listener.as_raw_fd();
             poll.registry()
@@ -181,55 +181,55 @@ fn share(alloc: Global, listeners: &[TcpListener]) -> io::Result<Vec<TcpListener
 /// How long a publisher's workers wait for a connection, for how many seconds a connection may be silent while another client waits, whether
 /// the server is to end, and from which proxy each connection begins with a header of the PROXY protocol.
 #[derive(Drop)]
-pub struct Waits {
+pub struct ListenerConfig {
     pub door: Duration,
     pub idle: u32,
-    pub ending: Arc<Ending>,
+    pub shutdown: Arc<ShutdownFlag>,
     pub proxied: Option<IpAddr>,
 }
 
-/// The seat of the lane at this place.
-fn seat_at<R: Net>(
+/// The listener of the lane at this place.
+fn lane_listener_at<R: Net>(
     rt: &R,
     alloc: Global,
     listeners: Vec<TcpListener>,
-    beside: (&Arc<Silences>, usize),
+    beside: (&Arc<IdleTimes>, usize),
     start: Instant,
-    waits: &Waits,
-) -> io::Result<Seat> {
-    let (silences, place) = beside;
-    let ending = Arc::try_clone(&waits.ending)?;
-    let silences = Arc::try_clone(silences)?;
-    let listeners = Sockets::new(rt, alloc, listeners, waits.door)?;
-    Ok(Seat {
+    config: &ListenerConfig,
+) -> io::Result<LaneListener> {
+    let (idle_times, place) = beside;
+    let shutdown = Arc::try_clone(&config.shutdown)?;
+    let idle_times = Arc::try_clone(idle_times)?;
+    let listeners = Sockets::new(rt, alloc, listeners, config.door)?;
+    Ok(LaneListener {
         listeners,
-        silences,
+        idle_times,
         place,
         start,
-        idle: u64::from(waits.idle).saturating_mul(1000),
+        idle: u64::from(config.idle).saturating_mul(1000),
         since: 1,
-        ending,
-        proxied: waits.proxied,
+        shutdown,
+        proxied: config.proxied,
         alloc,
     })
 }
 
-/// A seat at these listeners for each of `lanes` lanes.
-pub fn seats_at<R: Net + std::rt::Clock>(
+/// A lane's listener, over clones of these, for each of `lanes` lanes.
+pub fn lane_listeners_at<R: Net + std::rt::Clock>(
     rt: &R,
     alloc: Global,
     listeners: &[TcpListener],
     lanes: u16,
-    waits: &Waits,
-) -> io::Result<Vec<Seat>> {
+    config: &ListenerConfig,
+) -> io::Result<Vec<LaneListener>> {
     let lanes = usize::from(lanes);
-    let silences = Arc::new(alloc, Silences::new(alloc, lanes)?)?;
+    let idle_times = Arc::new(alloc, IdleTimes::new(alloc, lanes)?)?;
     let start = Instant::now(rt)?;
-    let mut seats = Vec::with_capacity(alloc, lanes)?;
+    let mut lane_listeners = Vec::with_capacity(alloc, lanes)?;
     for place in 0..lanes {
         let listeners = share(alloc, listeners)?;
-        let beside = (&silences, place);
-        seats.push(seat_at(rt, alloc, listeners, beside, start, waits)?)?;
+        let beside = (&idle_times, place);
+        lane_listeners.push(lane_listener_at(rt, alloc, listeners, beside, start, config)?)?;
     }
-    Ok(seats)
+    Ok(lane_listeners)
 }
