@@ -55,7 +55,7 @@ IsAnswerFor world (Some publisher) step =
 abbrev pub IsAnswer : World → Turn → Type 0
 IsAnswer world step = IsAnswerFor world (owner world.site step.event.lane) step
 
--- want of memory, or a refusal of the store: a frame on an open lane of somebody is answered busy, and the world stays
+-- a frame on an open lane of somebody is answered busy, and the world stays
 pub record IsBusy (world : World) (step : Turn) : Type 0 where
   pub received : Received
   pub frame_event : step.event.what ≡ what_of received

@@ -48,7 +48,7 @@
 //!   the call is made again, which claims it. A change is taken from the news only once it is in the table.
 //! - **At most 64 changes are let in before lanes are asked again**, and no pause follows a round before which any was.
 //! - **Serving ends one round after the last End**, so that a turn that served nothing is one with a pause, whatever round an End came in.
-//! - **`serve` has two clauses: one record (`served`) and that the lanes' numbers still differ (`distinct`)**, so that it can be called again.
+//! - **`serve` has one record (`served`), when it ends (`ended`), and that the lanes' numbers still differ (`distinct`)**, so that it can be called again.
 //!   One record and not a clause for each sentence, since four clauses would each speak of a list of events of its own.
 //! - **Nothing is taken after an End (`end_last`)**: what was taken in a call is events and then at most one End, as an equation of lists; it
 //!   says nothing of an End that was taken in an earlier call, which the caller knows of.

@@ -1,14 +1,21 @@
 //! The thread that keeps a server beside the others.
 
+ghost use Rattle.std.specs.Prelude.{◌≡◌, IfOk, IfSome, string_bytes};
+ghost use Rattle.hdl_lastingrows.specs.Writes.{write_in};
+ghost use Rattle.hdl_shared.specs.Writes.{write_at, IsOfWrite, PutsWrite};
+
 use crate::journal::{Order, Written};
 use crate::writes::{change_of_write, moment_of, write_of_change};
-use hdl_entries::{DatedChange, Entry, EntryFault, change_of_message, changes_of_entry};
+use hdl_entries::{
+    DatedChange, DatedMessage, Entry, EntryFault, change_of_message, changes_of_entry,
+};
 use hdl_lanes::{Inlet, Outlet};
 use hdl_lastingrows::OwnWrite;
 use hdl_members::{
     GatewayFault, ListFault, Loading, Put, Sent, SharedList, Standing, message_of_change,
 };
 use hdl_name::Name;
+use hdl_ops::Change;
 use hdl_serve::StampedChange;
 use hdl_value::Value;
 use std::alloc::{AllocError, Global};
@@ -176,7 +183,10 @@ impl<R: Net<Stream = TcpStream> + Clock + Eprint + Drop> Keeper<R> {
     }
 
     /// A change that stands in the list, with the write that it makes.
-    fn told_of(&self, change: DatedChange) -> Result<Told, ListFault> {
+    fn told_of(&self, change: DatedChange) -> Result<Told, ListFault>
+        ensures write { IfOk result (λ told. write_in told.write ≡ write_at change.moment change.change) }
+        ensures change { IfOk result (λ told. told.change ≡ record { moment = change.moment; change = change.change }) }
+    {
         let DatedChange { moment, change } = change;
         let write = write_of_change(self.alloc, moment, &change)?;
         let change = StampedChange { moment, change };
@@ -339,8 +349,10 @@ impl<R: Net<Stream = TcpStream> + Clock + Eprint + Drop> Keeper<R> {
         }
     }
 
-    /// The write as it is put, if its message reads as the same write.
-    fn put_of(&mut self, write: &OwnWrite) -> Result<Option<Put>, ListFault> {
+    /// The message of a change that makes the write, and the change, if the message reads as this very write.
+    fn message_of(&self, write: &OwnWrite) -> Result<Option<(DatedMessage, Change)>, ListFault>
+        ensures { IfOk result (λ found. IfSome found (λ put. IsOfWrite (write_in write.now) put.0)) }
+    {
         let named = write.as_write();
         let moment = moment_of(&named);
         let change = change_of_write(self.alloc, &named)?;
@@ -348,10 +360,21 @@ impl<R: Net<Stream = TcpStream> + Clock + Eprint + Drop> Keeper<R> {
             return Ok(None);
         };
         let read = change_of_message(self.alloc, message.message.as_slice())?;
-        if !write_of_change(self.alloc, moment, &read)?.is(&named) {
-            return Ok(None);
+        if write_of_change(self.alloc, message.moment, &read)?.is(&named) {
+            Ok(Some((message, change)))
+        } else {
+            Ok(None)
         }
-        Ok(Some(self.list.put_of(message, &change)?))
+    }
+
+    /// The write as it is put, if its message reads as the same write.
+    fn put_of(&mut self, write: &OwnWrite) -> Result<Option<Put>, ListFault>
+        ensures { IfOk result (λ found. IfSome found (λ put. PutsWrite self.old.list.name.items self.old.list.chain (write_in write.now) put.nonce put.behind (string_bytes put.text))) }
+    {
+        match self.message_of(write)? {
+            Some((message, change)) => Ok(Some(self.list.put_of(message, &change)?)),
+            None => Ok(None),
+        }
     }
 
     /// Sends a change until it is known what became of it. Whether it stands in the list.

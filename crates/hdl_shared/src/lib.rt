@@ -10,7 +10,8 @@
 //! [`EtcdJournal`] is a `Journal` (hdl_journalrows): what it told is what came by the ring and was taken (`specs/Told.antt`). A write is Made once it is the next that stands in the list.
 //! Another server's is taken only while its change is let in, and this server's own only by the call that ordered it. [`EtcdNews`] is `News` (hdl_serve).
 //!
-//! No clause says what the [`Keeper`] puts into the rings, since a network brings it. That the changes of all servers are one list is the premise of `servers_serve_as_one` (hdl_serve).
+//! What the [`Keeper`] puts into the list reads as a change that makes the write that was ordered (`specs/Writes.antt`), and each change that it reads is told with its write. No clause
+//! says what it puts into the rings, since a network brings it. That the changes of all servers are one list is the premise of `servers_serve_as_one` (hdl_serve).
 //!
 //! ```rust
 //! // crates/hdl_host/src/sharing.rt

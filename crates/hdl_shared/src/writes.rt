@@ -1,5 +1,11 @@
 //! Writes of a table as changes, and changes as writes.
 
+ghost use Rattle.std.specs.Prelude.{◌≡◌, map, IfOk};
+ghost use Rattle.hdl_ops.specs.Tables as tables;
+ghost use Rattle.hdl_ops.specs.Tables.{with_timestamp};
+ghost use Rattle.hdl_lastingrows.specs.Writes.{write_of, write_in};
+ghost use Rattle.hdl_shared.specs.Writes.{write_at};
+
 use hdl_lastingrows::{OwnWrite, Write};
 use hdl_limits::Items;
 use hdl_name::Name;
@@ -7,24 +13,37 @@ use hdl_ops::Change;
 use hdl_value::Value;
 use std::alloc::{AllocError, Global};
 
-fn name_of(alloc: Global, name: &Name) -> Result<Name, AllocError> {
+fn name_of(alloc: Global, name: &Name) -> Result<Name, AllocError>
+    ensures { IfOk result (λ copy. copy ≡ name.now) }
+{
     // A name reads as itself, so memory alone is refused.
     Name::read(alloc, name.sent()).map_err(|_| AllocError)
 }
 
-/// The values, each with this moment if one is given.
-fn values_of(
-    alloc: Global,
-    values: &[Value],
-    moment: Option<u64>,
-) -> Result<Vec<Value>, AllocError> {
+fn copies(alloc: Global, values: &[Value]) -> Result<Vec<Value>, AllocError>
+    ensures { IfOk result (λ all. all.items ≡ values.now) }
+{
     let mut all = Vec::new(alloc);
     for value in values {
-        let mut value = value.copy(alloc)?;
-        value.timestamp = moment.unwrap_or(value.timestamp);
-        all.push(value)?;
+        all.push(value.copy(alloc)?)?;
     }
     Ok(all)
+}
+
+fn with_moment(mut values: Vec<Value>, moment: u64) -> Vec<Value>
+    ensures { result.items ≡ map (with_timestamp moment) values.items }
+{
+    for value in values.iter_mut() {
+        value.timestamp = moment;
+    }
+    values
+}
+
+/// The values, each with this moment.
+fn stamped(alloc: Global, values: &[Value], moment: u64) -> Result<Vec<Value>, AllocError>
+    ensures { IfOk result (λ all. all.items ≡ map (with_timestamp moment) values.now) }
+{
+    Ok(with_moment(copies(alloc, values)?, moment))
 }
 
 /// The write that a change makes at a moment.
@@ -32,20 +51,21 @@ pub(crate) fn write_of_change(
     alloc: Global,
     moment: u64,
     change: &Change,
-) -> Result<OwnWrite, AllocError> {
-    let moment = Some(moment);
+) -> Result<OwnWrite, AllocError>
+    ensures { IfOk result (λ write. write_in write ≡ write_at moment change.now) }
+{
     Ok(match change {
         Change::Create { name, values } => OwnWrite::Create(
             name_of(alloc, name)?,
-            values_of(alloc, values.as_slice(), moment)?,
+            stamped(alloc, values.as_slice(), moment)?,
         ),
         Change::Add { name, values } => OwnWrite::Add(
             name_of(alloc, name)?,
-            values_of(alloc, values.as_slice(), moment)?,
+            stamped(alloc, values.as_slice(), moment)?,
         ),
         Change::Modify { name, values } => OwnWrite::Modify(
             name_of(alloc, name)?,
-            values_of(alloc, values.as_slice(), moment)?,
+            stamped(alloc, values.as_slice(), moment)?,
         ),
         Change::Remove { name, indexes } => OwnWrite::Remove(
             name_of(alloc, name)?,
@@ -56,19 +76,21 @@ pub(crate) fn write_of_change(
 }
 
 /// The change that makes a write.
-pub(crate) fn change_of_write(alloc: Global, write: &Write<'_>) -> Result<Change, AllocError> {
+pub(crate) fn change_of_write(alloc: Global, write: &Write<'_>) -> Result<Change, AllocError>
+    ensures { IfOk result (λ change. tables.write_of change ≡ write_of write.now) }
+{
     Ok(match write {
         Write::Create(name, values) => Change::Create {
             name: name_of(alloc, name)?,
-            values: Items::new(values_of(alloc, values, None)?),
+            values: Items::new(copies(alloc, values)?),
         },
         Write::Add(name, values) => Change::Add {
             name: name_of(alloc, name)?,
-            values: Items::new(values_of(alloc, values, None)?),
+            values: Items::new(copies(alloc, values)?),
         },
         Write::Modify(name, values) => Change::Modify {
             name: name_of(alloc, name)?,
-            values: Items::new(values_of(alloc, values, None)?),
+            values: Items::new(copies(alloc, values)?),
         },
         Write::Remove(name, indexes) => Change::Remove {
             name: name_of(alloc, name)?,
