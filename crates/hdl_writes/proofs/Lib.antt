@@ -1,4 +1,5 @@
 pub mod Items
+pub mod Leaves
 pub mod Losses
 pub mod Ones
 pub mod Presents

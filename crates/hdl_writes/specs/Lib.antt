@@ -4,6 +4,7 @@ pub mod Data
 pub mod Entry
 pub mod Exchange
 pub mod Laws
+pub mod Leave
 pub mod Orders
 pub mod Plan
 pub mod Present

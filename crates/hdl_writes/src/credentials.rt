@@ -25,7 +25,7 @@ pub enum KeyFault {
     Scheme,
     #[error("The field Authorization isn't base64 of a user, a colon and a secret.")]
     Base64,
-    #[error("The user of the field Authorization isn't INDEX:HANDLE with its colon written %3A.")]
+    #[error("The user of the field Authorization isn't INDEX:HANDLE with its colon written %3A, such as 300%3A0.NA/10.")]
     User,
     #[error("The secret of the field Authorization is empty.")]
     Secret,

@@ -18,7 +18,7 @@
 //!
 //! ```rust
 //! // crates/hdl_web/src/worker.rt
-//! None => carry_out(alloc, clerk, order, body),
+//! None => carry_out(alloc, change_servers, order, body),
 //! ```
 #![tactic(auto)]
 
@@ -32,6 +32,7 @@ mod fault;
 mod fields;
 mod keys;
 mod laws;
+mod leave;
 mod listing;
 mod mint;
 mod order;
@@ -48,6 +49,7 @@ pub use carry::carry_out;
 pub use credentials::{KeyFault, read_key};
 pub use fault::{EntryFault, RecordFault};
 pub use laws::{nothing_is_lost, written_is_read};
+pub use leave::may_list;
 pub use order::{Act, Begun, Order, SentRequest, Window, WriteMode, begin_with_key};
 pub use plan::{merging, replacing};
 pub use present::value_there;

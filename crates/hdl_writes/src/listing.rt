@@ -171,7 +171,7 @@ fn listing_answer<S: ChangeServer>(
 }
 
 /// Asks for the handles of the prefix whose administrative handle the order names.
-fn ask_for_list<S: ChangeServer>(
+pub(crate) fn ask_for_list<S: ChangeServer>(
     alloc: Global,
     service: &mut S,
     order: &Order,
