@@ -4,7 +4,7 @@ use hdl_core::Tenants;
 use hdl_host::{Amount, Bound};
 use hdl_name::Name;
 use hdl_server_options::BoundWord;
-use hdl_tables::has_publisher;
+use hdl_tables::{has_publisher, publisher_names};
 use std::alloc::{AllocError, AllocFailed, Global};
 use std::fmt;
 
@@ -12,8 +12,8 @@ use std::fmt;
 #[derive(Drop)]
 pub enum BoundFault {
     Memory,
-    /// The text has no publisher of this name.
-    Unknown(String),
+    /// The text has no publisher of this name, but those of these names.
+    Unknown(String, String),
     /// What the text opens with is more than the bound of this publisher.
     Beyond {
         publisher: String,
@@ -26,10 +26,10 @@ impl fmt::Display for BoundFault {
     fn fmt<W: fmt::Write>(&self, f: &mut fmt::Formatter<W>) -> fmt::Result {
         match self {
             BoundFault::Memory => write!(f, "no memory"),
-            BoundFault::Unknown(publisher) => {
+            BoundFault::Unknown(publisher, names) => {
                 write!(
                     f,
-                    "error: invalid value '{publisher}' for '--bound <NAME=VALUES,OCTETS>': the tenants text has no publisher of this name\n\nFor more information, try '--help'."
+                    "error: invalid value '{publisher}' for '--bound <NAME=VALUES,OCTETS>': the tenants text has no publisher of this name: it has {names}\n\nFor more information, try '--help'."
                 )
             }
             BoundFault::Beyond {
@@ -63,7 +63,7 @@ impl BoundFault {
     pub fn status(&self) -> u8 {
         match self {
             BoundFault::Memory => 1,
-            BoundFault::Unknown(_) => 2,
+            BoundFault::Unknown(_, _) => 2,
             BoundFault::Beyond { .. } => 3,
         }
     }
@@ -116,7 +116,8 @@ pub fn bounds_of(
     let mut bounds = Vec::new(alloc);
     for word in words {
         if !has_publisher(tenants, word.publisher.as_str()) {
-            return Err(BoundFault::Unknown(word.publisher));
+            let names = publisher_names(alloc, tenants)?;
+            return Err(BoundFault::Unknown(word.publisher, names));
         }
         let bound = bound_of(alloc, word, text)?;
         let opened = bound.amount_of_rows(alloc, tenants.opening())?;

@@ -8,7 +8,7 @@ use crate::sharing::export_cluster;
 use crate::texts::text_of;
 use hdl_programs::{status_of_words, tenants_of};
 use hdl_server_options::{ExportOptions, ExportSource, TableFile};
-use hdl_tables::{Export, ExportText, has_named, is_new, not_there};
+use hdl_tables::{Export, ExportText, has_named, is_new, look_at_new, not_there};
 use std::net::{Net, TcpStream};
 use std::random::RandomSource;
 use std::rt::Clock;
@@ -45,6 +45,7 @@ pub fn export_table<
         publisher,
         to,
     } = options;
+    look_at_new(rt, &to)?;
     let text = text_of(rt, text)?;
     let text = ExportText {
         text: text.as_str(),

@@ -46,7 +46,7 @@ impl TableGuard {
     pub fn sees_file(&mut self) -> bool {
         if let Some(file) = &self.file {
             self.change = file.change(&self.rt);
-            self.health.see_file(self.change);
+            self.health.note_file(self.change);
         }
         self.change.is_none()
     }
@@ -64,7 +64,7 @@ impl TableGuard {
 
     /// Whether as much memory can be had as is kept aside. What is seen is reported.
     fn sees_room(&mut self) -> bool {
-        let is_there = self.health.see_room(self.rt.alloc());
+        let is_there = self.health.check_memory(self.rt.alloc());
         self.is_short = !is_there;
         is_there
     }

@@ -13,6 +13,7 @@ mod descriptors;
 mod exporting;
 mod fault;
 mod guarding;
+mod monitoring;
 mod notices;
 mod opening;
 mod plan;
@@ -20,19 +21,19 @@ mod ports;
 mod replaying;
 mod serving;
 mod sharing;
-mod supervising;
 mod texts;
 
 use checking::{check_ports, check_text};
 use exporting::export_table;
 use fault::ProgramFault;
 use hdl_cachedrows::LIMIT_DEFAULT;
-use hdl_host::{Health, Setting};
-use hdl_programs::Fault;
+use hdl_host::{Health, ServerConfig};
+use hdl_programs::{Fault, status_of_words};
 use hdl_server_options::{
     BoundWord, ClusterOptions, Invocation, ServeOptions, TableFile, read_options,
 };
 use hdl_tables::{FileWork, TabledFault, copy_table, empty_table, over_file, restore_table};
+use monitoring::{is_one_file, reopen, say_log_taken, stop};
 use notices::TableNotices;
 use opening::{open_planned, place_of};
 use plan::{Plan, Planned, plan_of, setting_of};
@@ -46,11 +47,11 @@ use std::random::RandomSource;
 use std::rt::Clock;
 use std::sync::Arc;
 use std::thread::{self, Threads};
-use supervising::{reopen, stop};
-use texts::{read_text, text_of};
+use texts::{read_text, say_reading, text_of};
 
 /// Runs the script on standard input over a table in memory, and answers the exit status.
 fn replay_memory<R: Threads + Drop>(rt: &HostRuntime) -> Result<u8, ProgramFault> {
+    say_reading(rt);
     let rows = empty_table::<R, TableNotices>(rt, 0)?;
     Ok(replay_input(rt, rows)?)
 }
@@ -124,7 +125,7 @@ fn serve_plan<
 fn plan_in(
     rt: &HostRuntime,
     path: Option<String>,
-    setting: Setting,
+    setting: ServerConfig,
     bounds: Vec<BoundWord>,
 ) -> Result<Planned, Fault> {
     let text = text_of(rt, path)?;
@@ -178,7 +179,7 @@ fn over_unserved<R: Threads + Drop, W: FileWork>(
     let health = health_of(rt)?;
     let notices = TableNotices::new(rt, Arc::try_clone(&health).map_err(Fault::from)?);
     let done = over_file(machine, rt, place_of(file), notices, work);
-    health.say_due(rt);
+    health.print_due(rt);
     done
 }
 
@@ -214,6 +215,12 @@ fn copy_file(rt: &HostRuntime, from: &str, to: &str) -> Result<u8, ProgramFault>
 
 /// Puts a copy in the place of the table's file, and answers the exit status.
 fn restore_file(rt: &HostRuntime, from: &str, table: &str) -> Result<u8, ProgramFault> {
+    if is_one_file(rt, from, table) {
+        let _ = eprintln!(rt;
+            "restore: --from and --table name one file: name the copy, and the table's file"
+        );
+        return Ok(status_of_words(false));
+    }
     restore_table(rt, from, table)?;
     Ok(0)
 }
@@ -236,12 +243,36 @@ fn with_advice<R: Threads>(machine: &R, rt: &HostRuntime, fault: ProgramFault) -
             "the tenants text is refused: `handled check < TEXT` says what is wrong in each line, and what to do"
         );
     }
+    if fault.is_of_octets() {
+        let _ = eprintln!(rt;
+            "the tenants text isn't UTF-8: save it as UTF-8, without a byte order mark"
+        );
+    }
     if fault.is_of_machine() && !has_thread(machine) {
         let _ = eprintln!(rt;
             "threads can't be started, and each lane needs one: raise TasksMax of the service, or `ulimit -u`"
         );
     }
     fault
+}
+
+/// Serves the tenants of a text, unless the log would be written into a file that the server reads. Answers the exit status.
+fn serve_checked<
+    R: Net<Listener = TcpListener, Stream = TcpStream>
+        + Threads
+        + Clock
+        + RandomSource
+        + Files
+        + Eprint
+        + Copy
+        + Send
+        + Drop
+        + 'static,
+>(machine: &R, rt: &HostRuntime, options: ServeOptions) -> Result<u8, ProgramFault> {
+    if say_log_taken(rt, &options) {
+        return Ok(status_of_words(false));
+    }
+    serve(machine, rt, options)
 }
 
 /// Does what the command line asks for, and answers the exit status.
@@ -259,7 +290,12 @@ fn run<
 >(machine: &R, rt: &HostRuntime) -> Result<u8, ProgramFault> {
     match read_options(rt)? {
         Invocation::Ended(status) => Ok(status),
-        Invocation::Check { text, addresses } => check_input(rt, text, addresses.as_slice()),
+        Invocation::Check { text, addresses } => {
+            match check_input(rt, text, addresses.as_slice()) {
+                Err(fault) => Err(with_advice(machine, rt, fault)),
+                ended => ended,
+            }
+        }
         Invocation::Export(options) => match export_table(machine, rt, options) {
             Err(fault) => Err(with_advice(machine, rt, fault)),
             ended => ended,
@@ -270,7 +306,7 @@ fn run<
         Invocation::Restore { from, table } => restore_file(rt, from.as_str(), table.as_str()),
         Invocation::Stop { control } => Ok(stop(rt, control.as_str())),
         Invocation::Reopen { control } => Ok(reopen(rt, control.as_str())),
-        Invocation::Serve(options) => match serve(machine, rt, options) {
+        Invocation::Serve(options) => match serve_checked(machine, rt, options) {
             Err(fault) => Err(with_advice(machine, rt, fault)),
             ended => ended,
         },

@@ -5,7 +5,7 @@ use crate::notices::TableNotices;
 use crate::plan::Plan;
 use crate::ports::{can_listen, can_take_words};
 use hdl_core::Tenants;
-use hdl_host::{HostFault, Setting};
+use hdl_host::{HostFault, ServerConfig};
 use hdl_lastingrows::TableFault;
 use hdl_server_options::TableFile;
 use hdl_tables::{
@@ -21,7 +21,7 @@ fn try_sockets(
     rt: &HostRuntime,
     file: &TableFile,
     tenants: &Tenants,
-    setting: &Setting,
+    setting: &ServerConfig,
 ) -> Result<(), HostFault> {
     if is_new(rt, file.path.as_str()) {
         let addresses = setting.addresses.as_slice();
@@ -30,9 +30,9 @@ fn try_sockets(
             rt.alloc(),
             tenants,
             addresses,
-            setting.supervision.status,
+            setting.monitoring.status,
         )?;
-        can_take_words(rt, &setting.supervision.control)?;
+        can_take_words(rt, &setting.monitoring.control)?;
     }
     Ok(())
 }
@@ -47,8 +47,8 @@ pub fn place_of(file: &TableFile) -> TablePath<'_> {
 }
 
 /// What is informed of the table's file in this setting, whose status page shows it.
-fn notices_of(rt: &HostRuntime, setting: &Setting) -> Result<TableNotices, TableFault> {
-    let health = Arc::try_clone(&setting.supervision.health)?;
+fn notices_of(rt: &HostRuntime, setting: &ServerConfig) -> Result<TableNotices, TableFault> {
+    let health = Arc::try_clone(&setting.monitoring.health)?;
     Ok(TableNotices::new(rt, health))
 }
 

@@ -1,10 +1,10 @@
 //! Which tenants the program serves, and in which setting.
 
 use crate::bounds::bounds_of;
+use crate::monitoring::take_log;
 use crate::ports::say_unservable;
-use crate::supervising::take_log;
 use hdl_core::Tenants;
-use hdl_host::{Health, Limits, Setting, Supervision, notices_of};
+use hdl_host::{Health, Limits, Monitoring, ServerConfig, notices_of};
 use hdl_programs::{Fault, tenants_of};
 use hdl_server_options::{BoundWord, LimitOptions, SupervisionOptions};
 use std::net::IpAddr;
@@ -19,16 +19,16 @@ pub const UNSERVABLE: u8 = 3;
 pub trait Plan: Drop {
     fn tenants(&self) -> &Tenants;
 
-    fn setting(&self) -> &Setting;
+    fn setting(&self) -> &ServerConfig;
 
-    fn into_parts(self) -> (Tenants, Setting);
+    fn into_parts(self) -> (Tenants, ServerConfig);
 }
 
 /// The tenants of a text, served in this setting.
 #[derive(Drop)]
 pub struct TextPlan {
     tenants: Tenants,
-    setting: Setting,
+    setting: ServerConfig,
 }
 
 impl Plan for TextPlan {
@@ -36,11 +36,11 @@ impl Plan for TextPlan {
         &self.tenants
     }
 
-    fn setting(&self) -> &Setting {
+    fn setting(&self) -> &ServerConfig {
         &self.setting
     }
 
-    fn into_parts(self) -> (Tenants, Setting) {
+    fn into_parts(self) -> (Tenants, ServerConfig) {
         let TextPlan { tenants, setting } = self;
         (tenants, setting)
     }
@@ -66,26 +66,26 @@ fn limits_of(options: LimitOptions) -> Limits {
 }
 
 /// What the server tells of itself, and how it takes the word to end.
-fn supervision_of(
+fn monitoring_of(
     rt: &HostRuntime,
     options: SupervisionOptions,
     reserve: usize,
-) -> Result<Supervision, Fault> {
+) -> Result<Monitoring, Fault> {
     let SupervisionOptions {
         log,
         status,
         control,
         proxied,
     } = options;
-    let mut supervision = Supervision::none(rt.alloc())?;
-    supervision.health = Arc::new(rt.alloc(), Health::new(rt.alloc(), reserve)?)?;
-    supervision.status = status;
-    supervision.control = control;
-    supervision.proxied = proxied;
+    let mut monitoring = Monitoring::none(rt.alloc())?;
+    monitoring.health = Arc::new(rt.alloc(), Health::new(rt.alloc(), reserve)?)?;
+    monitoring.status = status;
+    monitoring.control = control;
+    monitoring.proxied = proxied;
     if let Some(path) = log {
-        take_log(rt, path.as_str(), &mut supervision)?;
+        take_log(rt, path.as_str(), &mut monitoring)?;
     }
-    Ok(supervision)
+    Ok(monitoring)
 }
 
 /// The setting that the options ask for, without bounds.
@@ -95,15 +95,15 @@ pub fn setting_of(
     limits: LimitOptions,
     takes_changes: bool,
     supervision: SupervisionOptions,
-) -> Result<Setting, Fault> {
+) -> Result<ServerConfig, Fault> {
     let limits = limits_of(limits);
-    let supervision = supervision_of(rt, supervision, limits.reserve)?;
-    Ok(Setting {
+    let monitoring = monitoring_of(rt, supervision, limits.reserve)?;
+    Ok(ServerConfig {
         addresses,
         limits,
         bounds: Vec::new(rt.alloc()),
         takes_changes,
-        supervision,
+        monitoring,
     })
 }
 
@@ -111,7 +111,7 @@ pub fn setting_of(
 pub fn plan_of(
     rt: &HostRuntime,
     text: &str,
-    setting: Setting,
+    setting: ServerConfig,
     words: Vec<BoundWord>,
 ) -> Result<Planned, Fault> {
     let mut setting = setting;
@@ -122,7 +122,7 @@ pub fn plan_of(
     match bounds_of(rt.alloc(), words, text, &tenants) {
         Ok(bounds) => {
             let notices = notices_of(rt.alloc(), bounds.as_slice())?;
-            setting.supervision.bounds = Arc::new(rt.alloc(), notices)?;
+            setting.monitoring.bounds = Arc::new(rt.alloc(), notices)?;
             setting.bounds = bounds;
             Ok(Planned::Plan(TextPlan { tenants, setting }))
         }

@@ -10,7 +10,7 @@ use crate::notices::{Notice, begins_line, say_ends};
 use crate::plan::Plan;
 use hdl_core::Owing;
 use hdl_guardedrows::GuardedRows;
-use hdl_host::{Ending, FileWatch, Health, Setting, host_resumed, host_tenants};
+use hdl_host::{FileWatch, Health, ServerConfig, ShutdownFlag, host_resumed, host_tenants};
 use hdl_programs::Fault;
 use hdl_tables::{Closing, Note, TabledFault};
 use std::fs::Files;
@@ -21,19 +21,19 @@ use std::sync::Arc;
 use std::thread::Threads;
 
 /// Whether the server was asked to end, which is looked at after its end.
-pub fn ending_of(setting: &Setting) -> Result<Arc<Ending>, Fault> {
-    Ok(Arc::try_clone(&setting.supervision.ending)?)
+pub fn shutdown_of(setting: &ServerConfig) -> Result<Arc<ShutdownFlag>, Fault> {
+    Ok(Arc::try_clone(&setting.monitoring.shutdown)?)
 }
 
 /// What is reported of the table, which is looked at after the end.
-pub fn health_of(setting: &Setting) -> Result<Arc<Health>, Fault> {
-    Ok(Arc::try_clone(&setting.supervision.health)?)
+pub fn health_of(setting: &ServerConfig) -> Result<Arc<Health>, Fault> {
+    Ok(Arc::try_clone(&setting.monitoring.health)?)
 }
 
 /// The guard of a table that is served in this setting, and of its file, where it has one.
 fn guard_of(
     rt: &HostRuntime,
-    setting: &Setting,
+    setting: &ServerConfig,
     file: Option<FileWatch>,
 ) -> Result<TableGuard, Fault> {
     Ok(TableGuard::new(rt, health_of(setting)?, file))
@@ -79,14 +79,14 @@ pub fn serve_memory<
     let kept = Notice::Memory { row_cache };
     let begins = begins_line(rt, plan.tenants(), kept, limits).map_err(Fault::from)?;
     let mut output = rt.stdout();
-    let ending = ending_of(plan.setting())?;
+    let shutdown = shutdown_of(plan.setting())?;
     let health = health_of(plan.setting())?;
     let guard = guard_of(rt, plan.setting(), None)?;
     let (tenants, mut setting) = plan.into_parts();
-    setting.supervision.begins = begins;
+    setting.monitoring.begins = begins;
     let rows = GuardedRows::new(rows, guard);
     host_tenants(machine, rt.alloc(), rows, tenants, setting, &mut output)?;
-    say_ends(rt, &health, ending.is_asked());
+    say_ends(rt, &health, shutdown.is_requested());
     Ok(0)
 }
 
@@ -113,15 +113,15 @@ pub fn serve_table<
     };
     let begins = begins_line(rt, plan.tenants(), kept, limits).map_err(Fault::from)?;
     let mut output = rt.stdout();
-    let ending = ending_of(plan.setting())?;
+    let shutdown = shutdown_of(plan.setting())?;
     let health = health_of(plan.setting())?;
     let guard = guard_of(rt, plan.setting(), watch(rt, path)?)?;
     let (tenants, mut setting) = plan.into_parts();
-    setting.supervision.begins = begins;
-    setting.supervision.file = watch(rt, path)?;
+    setting.monitoring.begins = begins;
+    setting.monitoring.file = watch(rt, path)?;
     let rows = GuardedRows::new(table, guard);
     let rows = host_resumed(machine, rt.alloc(), rows, tenants, setting, &mut output)?;
     close_guarded(rt, rows)?;
-    say_ends(rt, &health, ending.is_asked());
+    say_ends(rt, &health, shutdown.is_requested());
     Ok(0)
 }

@@ -7,7 +7,7 @@ use crate::health_of as new_health;
 use crate::notices::{Notice, TableNotices, begins_line, say_ends};
 use crate::plan::{Plan, UNSERVABLE};
 use crate::ports::say_empty;
-use crate::serving::{ending_of, health_of};
+use crate::serving::{health_of, shutdown_of};
 use hdl_core::Tenants;
 use hdl_guardedrows::GuardedRows;
 use hdl_host::{Sharing, host_shared, read_shared};
@@ -69,15 +69,15 @@ pub fn serve_cluster<
     let kept = Notice::Cluster(cluster.name.as_str());
     let begins = begins_line(rt, plan.tenants(), kept, limits).map_err(Fault::from)?;
     let mut output = rt.stdout();
-    let ending = ending_of(plan.setting())?;
+    let shutdown = shutdown_of(plan.setting())?;
     let health = health_of(plan.setting())?;
     let guard = TableGuard::of_shared(rt, health_of(plan.setting())?);
     let standing = standing(rt).map_err(Fault::from)?;
     let notices = TableNotices::new(rt, health_of(plan.setting())?);
     let Beside { rows, news, keeper } = beside_of(machine, rt, cluster, &standing, notices)?;
     let (tenants, mut setting) = plan.into_parts();
-    setting.supervision.begins = begins;
-    setting.supervision.beside = Some(Arc::try_clone(&standing).map_err(Fault::from)?);
+    setting.monitoring.begins = begins;
+    setting.monitoring.beside = Some(Arc::try_clone(&standing).map_err(Fault::from)?);
     let rows = GuardedRows::new(rows, guard);
     let theirs = Arc::try_clone(&standing).map_err(Fault::from)?;
     let sharing = Sharing {
@@ -97,7 +97,7 @@ pub fn serve_cluster<
         let _ = eprintln!(rt; "cluster: the server has parted from the others: start it anew");
         return Ok(PARTED);
     }
-    say_ends(rt, &health, ending.is_asked());
+    say_ends(rt, &health, shutdown.is_requested());
     Ok(0)
 }
 

@@ -3,7 +3,7 @@
 use hdl_programs::{Fault, read_input};
 use std::alloc::Global;
 use std::fs::File;
-use std::io::{self, ErrorKind, Read};
+use std::io::{self, ErrorKind, IsTerminal, Read};
 
 /// How many octets one read of a file asks for.
 const CHUNK: usize = 65_536;
@@ -16,15 +16,30 @@ fn text_in(octets: Vec<u8>) -> Result<String, Fault> {
     }
 }
 
+/// Says on standard error that input is read, if someone has to type it.
+pub fn say_reading(rt: &HostRuntime) {
+    if rt.stdin().is_terminal() {
+        let _ = eprintln!(rt;
+            "handled: standard input is read: end the command with < FILE, or see handled --help"
+        );
+    }
+}
+
 /// The whole input as a text.
 pub fn read_text(rt: &HostRuntime) -> Result<String, Fault> {
+    say_reading(rt);
     text_in(read_input(rt.alloc(), &mut rt.stdin())?)
 }
 
 /// Says that a file can't be read.
 fn unread(rt: &HostRuntime, path: &str, error: io::Error) -> Fault {
+    let way = if error.kind() == ErrorKind::PermissionDenied {
+        ", or leave out --text and let standard input open it (StandardInput=)"
+    } else {
+        ""
+    };
     let _ = eprintln!(rt;
-        "text: cannot read {path}: {error}: name a file that the program may read"
+        "text: cannot read {path}: {error}: name a file that the program may read{way}"
     );
     Fault::Device
 }

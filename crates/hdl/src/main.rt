@@ -17,6 +17,7 @@
 //! and what it shows is what came. `./hdl proxy` is a program of its own, `hdl_web`.
 #![tactic(auto)]
 
+mod commands;
 mod words;
 
 use hdl_commands::{
@@ -25,12 +26,22 @@ use hdl_commands::{
     write_script, write_tenants,
 };
 use hdl_value::Wire;
-use std::io::{self, Read};
+use std::io::{self, ErrorKind, IsTerminal, Read};
 use std::process::ExitCode;
 use words::{Invocation, read_words};
 
+/// Says on standard error that input is read, if someone has to type it.
+fn say_reading(rt: &HostRuntime) {
+    if rt.stdin().is_terminal() {
+        let _ = eprintln!(rt;
+            "hdl: standard input is read: type lines, and Ctrl-D at the end, or end the command with < FILE"
+        );
+    }
+}
+
 /// Explains the lines of standard input.
 fn explain_all(rt: &HostRuntime, wire: Wire, shows_keys: bool) -> io::Result<()> {
+    say_reading(rt);
     let mut line = String::new(rt.alloc());
     for _ in 0..u64::MAX {
         line.clear();
@@ -46,6 +57,7 @@ fn explain_all(rt: &HostRuntime, wire: Wire, shows_keys: bool) -> io::Result<()>
 
 /// All of standard input.
 fn text_of(rt: &HostRuntime) -> io::Result<String> {
+    say_reading(rt);
     let mut text = String::new(rt.alloc());
     rt.stdin().read_to_string(&mut text)?;
     Ok(text)
@@ -133,7 +145,10 @@ fn run(rt: &HostRuntime) -> io::Result<u8> {
         Invocation::Batch { server, wire } => batch_all(rt, &server, wire),
         Invocation::Import(import) => Ok(import_file(rt, &import)),
         Invocation::Replace(replacement) => Ok(replace_urls(rt, &replacement)),
-        Invocation::Export { table, shows_keys } => Ok(export_values(rt, table, shows_keys)),
+        Invocation::Export { table, shows_keys } => {
+            say_reading(rt);
+            Ok(export_values(rt, table, shows_keys))
+        }
         Invocation::Script => script_all(rt),
         Invocation::Tenants => tenants_all(rt),
         Invocation::Init { wire, prefixes } => init(rt, wire, &prefixes),
@@ -145,11 +160,21 @@ fn run(rt: &HostRuntime) -> io::Result<u8> {
     }
 }
 
+/// What to do about a fault of standard input or output.
+fn way_on(kind: ErrorKind) -> &'static str {
+    match kind {
+        ErrorKind::InvalidData => ": save the text on standard input as UTF-8",
+        ErrorKind::StorageFull => ": make room on the disk that standard output goes to",
+        _ => "",
+    }
+}
+
 fn main(rt: HostRuntime) -> ExitCode {
     match run(&rt) {
         Ok(status) => ExitCode::from(status),
         Err(fault) => {
-            let _ = eprintln!(rt; "hdl: {fault}");
+            let way = way_on(fault.kind());
+            let _ = eprintln!(rt; "hdl: {fault}{way}");
             ExitCode::from(1)
         }
     }

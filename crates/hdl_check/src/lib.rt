@@ -26,6 +26,7 @@
 //! ```
 #![tactic(auto)]
 
+mod administrators;
 mod judging;
 mod lines_by;
 mod reasons;

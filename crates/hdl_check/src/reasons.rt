@@ -25,6 +25,8 @@ const LINE_FORM: &str =
 const SPACE_FORM: &str =
     "fields are separated by one space, and none is at the end of a line: take the others out";
 
+const TAB_FORM: &str = "there is a tab: fields are separated by one space";
+
 const MARK_FORM: &str = "the text begins with a byte order mark: save it as UTF-8 without one";
 
 const NAME_FORM: &str = "a publisher's name is 1 to 32 of a-z, 0-9 and -";
@@ -179,6 +181,11 @@ fn is_in_words(fields: &[&str]) -> bool {
     }
 }
 
+/// Whether a field has a tab, in a line without a value in words: such a value's data may have one.
+fn has_tab(fields: &[&str]) -> bool {
+    !is_in_words(fields) && fields.iter().any(|field| field.contains('\t'))
+}
+
 /// What is wrong with the words of a value.
 fn value_words(
     alloc: Global,
@@ -234,6 +241,9 @@ pub(crate) fn reason_of(
     }
     if fields.iter().any(|field| field.is_empty()) {
         return String::from_str(alloc, SPACE_FORM);
+    }
+    if has_tab(fields) {
+        return String::from_str(alloc, TAB_FORM);
     }
     match fields.first() {
         Some(word) => match *word {

@@ -4,6 +4,7 @@ ghost use Rattle.std.specs.Prelude.{IfOk};
 ghost use Rattle.std.specs.Str.Lines.{lines};
 ghost use Rattle.hdl_check.specs.Report.{IsReportOf};
 
+use crate::administrators::push_without_one;
 use crate::judging::{Accepted, LineKind, kind_of};
 use crate::reasons::{IN_WORDS, is_follow_up, reason_of, words_of};
 use hdl_tenants::{TenantFault, Tenants};
@@ -173,7 +174,7 @@ fn site_words(alloc: Global, site: Option<&[u8]>) -> Result<String, AllocError> 
     }
 }
 
-/// What an accepted text has: a line for each publisher, and one for all values.
+/// What an accepted text has: a line for each publisher, one for all values, and one for each prefix without an administrator.
 fn summary(alloc: Global, text: &str, tenants: &Tenants) -> Result<String, AllocError> {
     let mut lines = String::new(alloc);
     for place in 0..tenants.publishers() {
@@ -194,5 +195,6 @@ fn summary(alloc: Global, text: &str, tenants: &Tenants) -> Result<String, Alloc
     let lanes = tenants.lanes();
     let line = format!(in alloc; "{lanes} of 64 lanes, {values} values\n")?;
     lines.push_str(&line)?;
+    push_without_one(alloc, &mut lines, text, tenants)?;
     Ok(lines)
 }

@@ -150,8 +150,42 @@ fn way_to_the_rest(operation: OpCode) -> &'static str {
 /// What values lack that are refused.
 fn way_to_values(operation: OpCode) -> &'static str {
     match operation {
-        OpCode::CreateHandle => ": a new handle needs an HS_ADMIN value",
+        OpCode::CreateHandle => {
+            ": a new handle needs an HS_ADMIN value, such as '100 HS_ADMIN 86400 1110 ADMIN 300:111111111111:0.NA/10'"
+        }
         _ => "",
+    }
+}
+
+/// Of which handle the key's holder has to be an administrator: for a new handle and for a list of the prefix's own.
+fn way_to_rights(operation: OpCode) -> &'static str {
+    match operation {
+        OpCode::CreateHandle | OpCode::ListHandles => {
+            ": the key of --key is no administrator of 0.NA/PREFIX who may do this"
+        }
+        _ => ": the key of --key is no administrator of the handle who may do this",
+    }
+}
+
+/// What to do if a handle has no such value.
+fn way_to_value(operation: OpCode) -> &'static str {
+    match operation {
+        OpCode::ModifyValue => {
+            ": resolve the handle; a value with a new index is added by `hdl add`"
+        }
+        OpCode::Resolution => {
+            ": the handle is there; leave out --type and --index to see all (URL isn't Url)"
+        }
+        _ => "",
+    }
+}
+
+/// What to do if a server can't read a request whose values have a layout.
+fn way_to_a_layout(operation: OpCode) -> &'static str {
+    if takes_values(operation) {
+        ": the port may have the other layout of values: add --handle-net if its line ends with handle-net, or else leave it out"
+    } else {
+        ""
     }
 }
 
@@ -168,6 +202,22 @@ fn way_to_change(operation: OpCode) -> &'static str {
     }
 }
 
+/// What to write where the service takes a name for none.
+fn way_to_a_name(operation: OpCode) -> &'static str {
+    match operation {
+        OpCode::ListHandles => ": write the prefix alone, such as 10",
+        _ => ": write PREFIX/NAME, such as 10/a",
+    }
+}
+
+/// Whether the words are the address of a handle, and not the handle.
+fn is_address(words: &str) -> bool {
+    words.starts_with("hdl:")
+        || words.starts_with("doi:")
+        || words.starts_with("http:")
+        || words.starts_with("https:")
+}
+
 /// What to do about a reply with this code.
 pub(crate) fn way_on(operation: OpCode, code: Option<ResponseCode>) -> &'static str {
     match code {
@@ -175,20 +225,96 @@ pub(crate) fn way_on(operation: OpCode, code: Option<ResponseCode>) -> &'static 
         Some(ResponseCode::ServerBusy) => {
             ": nothing was done: try again; if it stays so, the server's /health says why"
         }
+        Some(ResponseCode::ProtocolError) => way_to_a_layout(operation),
         Some(ResponseCode::OperationDenied) => way_to_change(operation),
         Some(ResponseCode::ValueInvalid) => way_to_values(operation),
-        Some(ResponseCode::InvalidHandle) => ": write PREFIX/NAME, such as 10/a",
+        Some(ResponseCode::InvalidHandle) => way_to_a_name(operation),
+        Some(ResponseCode::HandleAlreadyExists) if operation == OpCode::CreateHandle => {
+            ": change it by `hdl modify` or `hdl add`"
+        }
+        Some(ResponseCode::ValueNotFound) => way_to_value(operation),
+        Some(ResponseCode::ValueAlreadyExists) if operation == OpCode::AddValue => {
+            ": a value with an index that exists is changed by `hdl modify`"
+        }
         Some(ResponseCode::ServiceReferral) => {
             ": this port doesn't serve the prefix: name its publisher's port by --server"
         }
-        Some(ResponseCode::NotAuthorized) => ": the key of --key is no administrator there",
+        Some(ResponseCode::NotAuthorized) => way_to_rights(operation),
         Some(ResponseCode::AuthenticationNeeded) => {
             ": give --key INDEX:HANDLE, and its secret in HDL_SECRET"
         }
         Some(ResponseCode::AuthenticationFailed) => {
             ": the secret isn't that of the key: check HDL_SECRET"
         }
+        Some(ResponseCode::UnableToAuthenticate) => {
+            ": the handle of --key has no such key: check its index and its handle"
+        }
         _ => "",
+    }
+}
+
+/// The prefix of the handle that is asked for.
+fn prefix_of(question: &Inquiry) -> &str {
+    match question.handle.split_once('/') {
+        Some((prefix, _)) => prefix,
+        None => question.handle.as_str(),
+    }
+}
+
+/// The handle whose administrators may do what is asked, as it is shown.
+fn administered(alloc: Global, question: &Inquiry) -> Result<String, AllocError> {
+    let name = if question.operation == OpCode::CreateHandle {
+        format!(in alloc; "0.NA/{}", prefix_of(question))?
+    } else {
+        handle_of(alloc, question)?
+    };
+    printed_octets(alloc, name.as_bytes())
+}
+
+/// Says which handle's administrators may do what was asked, and how to find them.
+fn rights_advice(alloc: Global, question: &Inquiry) -> Result<String, AllocError> {
+    let handle = administered(alloc, question)?;
+    format!(in alloc;
+        ": the key of --key is no administrator of {handle} who may do this: `hdl resolve {handle} --type HS_ADMIN` names them; if none is there, see docs/FILE.md, \"If a key is lost\""
+    )
+}
+
+/// Says which value a new handle lacks.
+fn values_advice(alloc: Global, question: &Inquiry) -> Result<String, AllocError> {
+    let prefix = printed_octets(alloc, prefix_of(question).as_bytes())?;
+    format!(in alloc;
+        ": a new handle needs an HS_ADMIN value, such as '100 HS_ADMIN 86400 1110 ADMIN 300:111111111111:0.NA/{prefix}'"
+    )
+}
+
+/// What to do about a reply with this code to a question.
+fn advice(
+    alloc: Global,
+    question: &Inquiry,
+    code: Option<ResponseCode>,
+) -> Result<String, AllocError> {
+    match code {
+        Some(ResponseCode::NotAuthorized) => rights_advice(alloc, question),
+        Some(ResponseCode::ValueInvalid) if question.operation == OpCode::CreateHandle => {
+            values_advice(alloc, question)
+        }
+        Some(ResponseCode::ServiceReferral) if is_address(&question.handle) => {
+            String::from_str(alloc, ": write the handle alone, such as 10/a")
+        }
+        _ => String::from_str(alloc, way_on(question.operation, code)),
+    }
+}
+
+/// Says on standard error that no text can name a new handle, if its name has a space or a line feed.
+fn tell_unsayable(rt: &HostRuntime, question: &Inquiry) {
+    let handle = question.handle.as_str();
+    if question.operation != OpCode::CreateHandle {
+        return;
+    }
+    if handle.contains(' ') || handle.contains('\n') {
+        let _ = eprintln!(rt;
+            "hdl: a tenants text can't express the space or line feed in the name: `handled export` will leave the handle out"
+        );
     }
 }
 
@@ -197,10 +323,11 @@ fn show(rt: &HostRuntime, question: &Inquiry, reply: &Reply) -> Result<u8, AskFa
     let view = reply.view();
     print_reply(rt, question, &reply.envelope(), &view)?;
     if view.code() == Some(ResponseCode::Success) {
+        tell_unsayable(rt, question);
         return Ok(0);
     }
     let code = view.header.response_code;
-    let more = way_on(question.operation, view.code());
+    let more = advice(rt.alloc(), question, view.code())?;
     let _ = eprintln!(rt; "hdl: {code} {}{more}", code_name(code));
     Ok(1)
 }
@@ -267,6 +394,8 @@ fn tell_word(rt: &HostRuntime, words: &[String], place: usize, fault: WordFault)
         None => "",
     };
     let way = match fault {
+        WordFault::Value(_) if word.contains('\t') =>
+            ": there is a tab: fields are separated by one space",
         WordFault::Value(_) => VALUE_FORM,
         _ => "",
     };

@@ -156,6 +156,9 @@ impl Reader<'_> {
     }
 
     fn operation(&mut self, line: usize, text: &str) -> Result<(), WordFault> {
+        if text.starts_with('\u{feff}') {
+            return Err(WordFault::Mark);
+        }
         let Some((word, rest)) = text.split_once(' ') else {
             return Err(WordFault::Operation);
         };

@@ -209,6 +209,15 @@ fn export_lines(rt: &HostRuntime, table: Table, shows_keys: bool) -> io::Result<
     Ok(counts)
 }
 
+/// Says on standard error what to do if a text has no value: it may have them in words.
+fn tell_none(rt: &HostRuntime, counts: Counts) {
+    if counts.written == 0 && counts.keys == 0 && counts.unsaid == 0 {
+        let _ = eprintln!(rt;
+            "hdl: the text has no value in digits: `handled export` makes such a text of a table, and `hdl tenants` of words"
+        );
+    }
+}
+
 /// Writes the values of the tenants text on standard input as a table, without those that are keys unless they are asked for, and says
 /// on standard error how many there are. Other lines are passed over. Answers the exit status: 0, or 1 where no row says a value, or
 /// a stream failed.
@@ -223,6 +232,7 @@ pub fn export_values(rt: &HostRuntime, table: Table, shows_keys: bool) -> u8 {
             let _ = eprintln!(rt;
                 "hdl: {written} values written, {keys} keys left out, {unsaid} that no row says"
             );
+            tell_none(rt, counts);
             u8::from(unsaid > 0)
         }
         Err(fault) => {

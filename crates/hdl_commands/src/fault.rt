@@ -22,6 +22,8 @@ pub enum WordFault {
     Value(LineFault),
     #[error("an HS_SECKEY value is refused on the command line, which others on this machine can read: use `hdl batch`")]
     KeyInWords,
+    #[error("a tab: fields are separated by one space")]
+    Tab,
     #[error("no CREATE, ADD or MODIFY stands before this value")]
     Stray,
     #[error("the operation needs values or indexes")]
@@ -44,6 +46,8 @@ pub enum WordFault {
     Tabs,
     #[error("the file is UTF-16: save it as CSV UTF-8")]
     Utf16,
+    #[error("the text begins with a byte order mark: save it as UTF-8 without one")]
+    Mark,
     #[error("the data is empty: create such a value with `hdl batch`")]
     NoData,
     #[error("the data begins or ends with a space: create such a value with `hdl batch`")]

@@ -24,9 +24,11 @@ const NAME_MAX: usize = 32;
 /// Why no text is written. Prefixes are counted from 1.
 #[derive(Clone, Copy, Debug, Error)]
 pub enum FreshFault {
-    #[error("prefix {0} isn't a naming authority: write one such as 10 or 10.5072, without a slash, and not 0.NA")]
+    #[error("the prefix at place {0} has a space or a comma: write each prefix as a word of its own")]
+    Separator(usize),
+    #[error("the prefix at place {0} isn't a naming authority: write one such as 10 or 10.5072, without a slash, and not 0.NA")]
     Prefix(usize),
-    #[error("prefix {0} is given twice: name each prefix once; capital and small letters are the same")]
+    #[error("the prefix at place {0} is given twice: name each prefix once; capital and small letters are the same")]
     Twice(usize),
     #[error("more than 32 prefixes: a server has 64 lanes, and each publisher needs two; make a text for each of several servers")]
     TooMany,
@@ -86,6 +88,9 @@ fn prefixes_of(alloc: Global, words: &[String]) -> Result<Vec<String>, FreshFaul
     for word in words {
         number = number.saturating_add(1);
         let prefix = word.to_ascii_lowercase(alloc)?;
+        if prefix.contains(' ') || prefix.contains(',') {
+            return Err(FreshFault::Separator(number));
+        }
         if !is_authority(&prefix) || prefix.as_str() == "0.na" {
             return Err(FreshFault::Prefix(number));
         }

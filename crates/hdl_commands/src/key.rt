@@ -7,6 +7,7 @@ use hdl_lines::read_reference;
 use hdl_value::RawRef;
 use std::alloc::Global;
 use std::env;
+use std::io::IsTerminal;
 
 /// The variable of the environment that a secret is looked for in.
 pub const SECRET_VARIABLE: &str = "HDL_SECRET";
@@ -41,6 +42,9 @@ fn secret(rt: &HostRuntime) -> Result<String, WordFault> {
         Ok(secret) => return Ok(secret),
         Err(env::VarError::NotPresent) => {}
         Err(_) => return Err(WordFault::NoSecret),
+    }
+    if rt.stdin().is_terminal() {
+        let _ = eprintln!(rt; "hdl: HDL_SECRET isn't set: type the secret of the key, and Enter");
     }
     let mut line = String::new(rt.alloc());
     if rt.read_line(&mut line).is_err() {

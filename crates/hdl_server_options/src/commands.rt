@@ -69,6 +69,7 @@ fn listen_arg<'a>(alloc: Global, help: &'a str) -> Arg<'a> {
 fn serve_command<'a>(alloc: Global) -> Result<Command<'a>, AllocError> {
     let command = Command::new(alloc, "serve")
         .about("Serves the tenants text on standard input, or in a file, over TCP and UDP")
+        .after_help("For example: handled serve --table handles.db < publishers.tenants")
         .arg(text_arg(alloc))?
         .arg(listen_arg(
             alloc,
@@ -260,7 +261,9 @@ fn reopen_command<'a>(alloc: Global) -> Result<Command<'a>, AllocError> {
 }
 
 fn replay_command<'a>(alloc: Global) -> Result<Command<'a>, AllocError> {
-    let command = Command::new(alloc, "replay").about("Runs the script on standard input");
+    let command = Command::new(alloc, "replay")
+        .about("Runs the script on standard input")
+        .after_help("For example: handled replay < SCRIPT");
     table_args(alloc, command)
 }
 
@@ -269,6 +272,7 @@ fn export_command<'a>(alloc: Global) -> Result<Command<'a>, AllocError> {
         .about(
             "Writes the table of a file, or of a cluster, as a tenants text; publishers and prefixes come from the text on standard input, or in --text",
         )
+        .after_help("For example: handled export --table COPY --to NEW < publishers.tenants")
         .arg(option(
             alloc,
             "table",
@@ -304,6 +308,7 @@ fn check_command<'a>(alloc: Global) -> Result<Command<'a>, AllocError> {
         .about(
             "Checks the tenants text on standard input, or in --text: prints what it has, or all of its faults, and which ports are taken",
         )
+        .after_help("For example: handled check < publishers.tenants")
         .arg(text_arg(alloc))?
         .arg(listen_arg(
             alloc,

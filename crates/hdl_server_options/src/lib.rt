@@ -13,7 +13,12 @@
 //! // crates/handled/src/main.rt
 //! match read_options(rt)? {
 //!     Invocation::Ended(status) => Ok(status),
-//!     Invocation::Check { text, addresses } => check_input(rt, text, addresses.as_slice()),
+//!     Invocation::Check { text, addresses } => {
+//!         match check_input(rt, text, addresses.as_slice()) {
+//!             Err(fault) => Err(with_advice(machine, rt, fault)),
+//!             ended => ended,
+//!         }
+//!     }
 //! ```
 #![tactic(auto)]
 

@@ -115,6 +115,6 @@ pub fn read_options(rt: &HostRuntime) -> Result<Invocation, OptionsFault> {
     };
     match parse(rt.alloc(), words.as_slice()) {
         Ok(asked) => Ok(asked),
-        Err(unclear) => Ok(Invocation::Ended(print_unclear(rt, unclear)?)),
+        Err(unclear) => Ok(Invocation::Ended(print_unclear(rt, words.as_slice(), unclear)?)),
     }
 }

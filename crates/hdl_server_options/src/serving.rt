@@ -152,7 +152,9 @@ fn is_member(word: &str) -> bool {
         return !path.is_empty();
     }
     match word.rsplit_once(':') {
-        Some((host, port)) => !host.is_empty() && port.parse::<u16>().is_ok(),
+        Some((host, port)) => {
+            !host.is_empty() && !host.contains('/') && port.parse::<u16>().is_ok()
+        }
         None => false,
     }
 }

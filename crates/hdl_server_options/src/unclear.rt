@@ -43,13 +43,33 @@ impl From<AllocError> for Unclear {
     }
 }
 
-/// Prints what `clap` has to say, and answers the exit status.
-fn print_help(rt: &HostRuntime, error: Error) -> Result<u8, OptionsFault> {
-    if error.kind() == ErrorKind::OutOfMemory {
+/// Whether a command reads a text from standard input.
+fn reads_input(name: &str) -> bool {
+    matches!(name, "serve" | "check" | "export" | "replay")
+}
+
+/// Says on standard error how a text is given to the command of these words, if it takes one and has a word too many.
+fn tell_input(rt: &HostRuntime, words: &[String], kind: ErrorKind) {
+    let Some(name) = words.get(1) else {
+        return;
+    };
+    if kind == ErrorKind::UnknownArgument && reads_input(name.as_str()) {
+        let _ = eprintln!(rt;
+            "\nThe command reads its text from standard input: end it with ` < FILE`."
+        );
+    }
+}
+
+/// Prints what `clap` has to say of these words, and answers the exit status.
+fn print_help(rt: &HostRuntime, words: &[String], error: Error) -> Result<u8, OptionsFault> {
+    let kind = error.kind();
+    if kind == ErrorKind::OutOfMemory {
         return Err(OptionsFault::Memory);
     }
     let is_help = !error.use_stderr();
-    match error.print(rt) {
+    let printed = error.print(rt);
+    tell_input(rt, words, kind);
+    match printed {
         Err(_) if is_help => Err(OptionsFault::Device),
         _ => Ok(status_of_words(is_help)),
     }
@@ -64,6 +84,15 @@ const BOUND: &str = "--bound <NAME=VALUES,OCTETS>";
 /// What a word for an address has to be.
 const ADDRESS: &str = "not an IPv4 or IPv6 address; write one such as 192.0.2.1 or 2001:db8::1";
 
+/// What is wrong with a word that is no address to listen at.
+fn listen_reason(word: &str) -> &'static str {
+    if word.starts_with('[') || (word.contains('.') && word.contains(':')) {
+        "not an IPv4 or IPv6 address; write one such as 192.0.2.1 or 2001:db8::1, without port and brackets; the ports are in the tenants text"
+    } else {
+        ADDRESS
+    }
+}
+
 /// Says what is wrong with the value of an option, and answers the exit status.
 fn refuse_value(rt: &HostRuntime, word: &str, option: &str, reason: &str) -> u8 {
     let _ = eprintln!(rt;
@@ -72,11 +101,20 @@ fn refuse_value(rt: &HostRuntime, word: &str, option: &str, reason: &str) -> u8 
     status_of_words(false)
 }
 
-/// Prints why the words ask for nothing, and answers the exit status.
-pub fn print_unclear(rt: &HostRuntime, unclear: Unclear) -> Result<u8, OptionsFault> {
+/// Prints why these words ask for nothing, and answers the exit status.
+pub fn print_unclear(
+    rt: &HostRuntime,
+    words: &[String],
+    unclear: Unclear,
+) -> Result<u8, OptionsFault> {
     match unclear {
-        Unclear::Words(error) => print_help(rt, error),
-        Unclear::Address(word) => Ok(refuse_value(rt, word.as_str(), LISTEN, ADDRESS)),
+        Unclear::Words(error) => print_help(rt, words, error),
+        Unclear::Address(word) => Ok(refuse_value(
+            rt,
+            word.as_str(),
+            LISTEN,
+            listen_reason(word.as_str()),
+        )),
         Unclear::LinkLocal(word) => Ok(refuse_value(
             rt,
             word.as_str(),

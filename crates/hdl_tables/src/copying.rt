@@ -25,11 +25,16 @@ const HEADER: usize = 32;
 /// How often a copy is tried, where the log is begun anew under it.
 const TRIES: u32 = 10;
 
+/// What a SQLite database begins with.
+const MAGIC: &[u8] = b"SQLite format 3\0";
+
 /// Why a file isn't copied.
 #[derive(Clone, Copy)]
 pub enum CopyFault {
     /// The file can't be read.
     From(ErrorKind),
+    /// The file is no database.
+    NoDatabase,
     /// The copy can't be written.
     To(ErrorKind),
     /// The folder of the copy isn't there.
@@ -47,6 +52,9 @@ impl fmt::Display for CopyFault {
                 f,
                 "copy: the table's file can't be read: {}: check its path",
                 PathReason(*kind)
+            ),
+            CopyFault::NoDatabase => f.write_str(
+                "copy: the file of --table is no SQLite database: check its path",
             ),
             CopyFault::To(kind) => write!(
                 f,
@@ -176,9 +184,25 @@ fn close_copy(rt: &HostRuntime, path: &str) -> Result<(), TabledFault> {
     close_noted(rt, conn, Note::Whole)
 }
 
+/// Sees that a file begins as a database does, or has nothing yet.
+fn look_at_front(rt: &HostRuntime, path: &str) -> Result<(), CopyFault> {
+    let mut front = [0; 16];
+    let read = match File::open(rt, path) {
+        Ok(mut file) => file.read(&mut front),
+        Err(e) => return Err(CopyFault::From(e.kind())),
+    };
+    match read {
+        Ok(0) => Ok(()),
+        Ok(_) if front.as_slice() == MAGIC => Ok(()),
+        Ok(_) => Err(CopyFault::NoDatabase),
+        Err(e) => Err(CopyFault::From(e.kind())),
+    }
+}
+
 /// Copies the table's file, and moves the log of the copy into it.
 pub fn copy_table(rt: &HostRuntime, from: &str, to: &str) -> Result<(), TabledFault> {
     let (from, copy) = (Paths::resolved(rt, from)?, Paths::at(rt, to)?);
+    look_at_front(rt, &from.file)?;
     copy_both(rt, &from, &copy)?;
     close_copy(rt, to)
 }

@@ -12,6 +12,7 @@ use hdl_export::{
 use hdl_programs::{Fault, INPUT_LIMIT, put_all};
 use hdl_rows::{Owing, Rows};
 use hdl_tenants::Tenants;
+use std::alloc::{AllocError, Global};
 use std::fmt;
 use std::fs::{self, File, OpenOptions};
 use std::io::{self, ErrorKind, Write};
@@ -67,6 +68,20 @@ pub fn has_publisher(tenants: &Tenants, name: &str) -> bool {
     false
 }
 
+/// The names of the publishers that the text has, with commas between.
+pub fn publisher_names(alloc: Global, tenants: &Tenants) -> Result<String, AllocError> {
+    let mut names = String::new(alloc);
+    for place in 0..tenants.publishers() {
+        if let Some((publisher, _, _)) = tenants.publisher(place) {
+            if !names.is_empty() {
+                names.push_str(", ")?;
+            }
+            names.push_str(publisher)?;
+        }
+    }
+    Ok(names)
+}
+
 /// Whether the text has a publisher of the name that was given, if one was; says on standard error where it hasn't.
 pub fn has_named(rt: &HostRuntime, tenants: &Tenants, publisher: &Option<String>) -> bool {
     let Some(name) = publisher else {
@@ -75,8 +90,9 @@ pub fn has_named(rt: &HostRuntime, tenants: &Tenants, publisher: &Option<String>
     if has_publisher(tenants, name.as_str()) {
         return true;
     }
+    let names = publisher_names(rt.alloc(), tenants).unwrap_or_else(|_| String::new(rt.alloc()));
     let _ = eprintln!(rt;
-        "error: invalid value '{name}' for '--publisher <NAME>': the tenants text has no publisher of this name\n\nFor more information, try '--help'."
+        "error: invalid value '{name}' for '--publisher <NAME>': the tenants text has no publisher of this name: it has {names}\n\nFor more information, try '--help'."
     );
     false
 }
@@ -87,6 +103,8 @@ pub enum WriteFault {
     /// There is something at the path.
     Exists,
     Device(ErrorKind),
+    /// Standard output doesn't take it.
+    Output,
 }
 
 impl fmt::Display for WriteFault {
@@ -100,8 +118,22 @@ impl fmt::Display for WriteFault {
                 "export: the text can't be written: {}: check its folder, and the room on the disk",
                 PathReason(*kind)
             ),
+            WriteFault::Output => f.write_str(
+                "export: standard output can't be written, and what it has of the text isn't whole: make room where it goes, or name a new file by --to",
+            ),
         }
     }
+}
+
+/// Sees that nothing is at the path that is written to, if one is given.
+pub fn look_at_new(rt: &HostRuntime, to: &Option<String>) -> Result<(), TabledFault> {
+    let Some(path) = to else {
+        return Ok(());
+    };
+    if fs::symlink_metadata(rt, path).is_ok() {
+        return Err(TabledFault::from(WriteFault::Exists));
+    }
+    Ok(())
 }
 
 /// Makes a new file, for its owner alone.
@@ -136,8 +168,10 @@ fn write_new(rt: &HostRuntime, path: &str, text: &str) -> io::Result<()> {
 /// Puts the text into a new file, if a path is given, or prints it.
 fn put_text(rt: &HostRuntime, text: &str, to: &Option<String>) -> Result<(), TabledFault> {
     let Some(path) = to else {
-        put_all(&mut rt.stdout(), text.as_bytes())?;
-        return Ok(());
+        return match put_all(&mut rt.stdout(), text.as_bytes()) {
+            Ok(()) => Ok(()),
+            Err(_) => Err(TabledFault::from(WriteFault::Output)),
+        };
     };
     match write_new(rt, path, text) {
         Ok(()) => Ok(()),

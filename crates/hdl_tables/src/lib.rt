@@ -34,7 +34,9 @@ mod restoring;
 
 pub use closing::Closing;
 pub use copying::{CopyFault, copy_table};
-pub use exporting::{Export, ExportText, WriteFault, has_named, has_publisher};
+pub use exporting::{
+    Export, ExportText, WriteFault, has_named, has_publisher, look_at_new, publisher_names,
+};
 pub use fault::TabledFault;
 pub use file::{FileWork, over_file};
 pub use opening::{Table, TablePath, empty_table, is_new, open_served, table_in};

@@ -360,6 +360,31 @@ fn open_known(
     }
 }
 
+/// Takes away the empty log that an open leaves next to a file that is no database.
+fn remove_empty(rt: &HostRuntime, log: &str) {
+    if let Ok(found) = fs::symlink_metadata(rt, log) {
+        if found.is_file() && found.len() == 0 {
+            let _ = fs::remove_file(rt, log);
+        }
+    }
+}
+
+/// Opens a file that was judged. If it is no database, the log that the open makes next to it is taken away.
+fn open_tidily(rt: &HostRuntime, place: &TablePath<'_>) -> Result<Connection<Store>, TabledFault>
+    ensures mode { IfOk result (λ c. c.in_transaction ≡ false) }
+    ensures even { IfOk result (λ c. WhereOpen (file_state c) ((file_state c).committed ≡ (file_state c).now)) }
+{
+    let paths = Paths::resolved(rt, place.path)?;
+    let has_log = fs::symlink_metadata(rt, &paths.log).is_ok();
+    let opened = open_known(rt, place.path, place.has_sums);
+    if let Err(TabledFault::Table(TableFault::Damaged)) = &opened {
+        if !has_log {
+            remove_empty(rt, &paths.log);
+        }
+    }
+    opened
+}
+
 /// Gives a file that lost its log a new note, so that the lost one isn't taken for its own if it is put back.
 fn renew(rt: &HostRuntime, place: &TablePath<'_>) -> Result<(), TabledFault> {
     let conn = open_known(rt, place.path, place.has_sums)?;
@@ -377,7 +402,7 @@ pub(crate) fn open_judged(
     if admit(rt, place)? {
         renew(rt, place)?;
     }
-    open_known(rt, place.path, place.has_sums)
+    open_tidily(rt, place)
 }
 
 /// Judges a copy of the file and the log beside it, and opens them.

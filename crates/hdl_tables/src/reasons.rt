@@ -44,7 +44,13 @@ impl Owner {
 
 impl fmt::Display for Owner {
     fn fmt<W: fmt::Write>(&self, f: &mut fmt::Formatter<W>) -> fmt::Result {
-        let Owner { owner, mode, user } = self;
+        let Owner { owner, mode, user } = *self;
+        if owner == user {
+            return write!(
+                f,
+                "it belongs to user {owner}, who runs this program, and has mode {mode:04o}: let its owner read and write it (chmod u+rwX)"
+            );
+        }
         write!(
             f,
             "it belongs to user {owner} with mode {mode:04o}, and this program is user {user}: give it to that user (chown), or let that user read and write it"

@@ -110,6 +110,7 @@ impl From<CopyFault> for RestoreFault {
     fn from(fault: CopyFault) -> RestoreFault {
         match fault {
             CopyFault::From(kind) => RestoreFault::From(kind),
+            CopyFault::NoDatabase => RestoreFault::Copy(TableFault::Damaged),
             CopyFault::To(kind) => RestoreFault::Place(kind),
             CopyFault::NoFolder => RestoreFault::Folder(ErrorKind::NotFound),
             CopyFault::Exists => RestoreFault::Left,

@@ -56,6 +56,8 @@ enum ImportFault {
     Key,
     #[error("the server takes no changes (--read-only): name the one that does by --server; later rows were not tried")]
     ReadOnly,
+    #[error("the server takes no changes now: its /health says why; later rows were not tried")]
+    Busy,
 }
 
 impl ImportFault {
@@ -63,7 +65,7 @@ impl ImportFault {
         match self {
             ImportFault::File(_) | ImportFault::Header(_) | ImportFault::Words(_) => 2,
             ImportFault::Client(_) => 3,
-            ImportFault::Key | ImportFault::ReadOnly => 1,
+            ImportFault::Key | ImportFault::ReadOnly | ImportFault::Busy => 1,
         }
     }
 }
@@ -73,6 +75,7 @@ impl From<Refusal> for ImportFault {
         match refusal {
             Refusal::Key => ImportFault::Key,
             Refusal::ReadOnly => ImportFault::ReadOnly,
+            Refusal::Busy => ImportFault::Busy,
         }
     }
 }
@@ -199,6 +202,9 @@ fn ask_parts<S: Transport>(
         course.show(rows.lines);
         if let Some(refusal) = counts.refusal {
             return Err(ImportFault::from(refusal));
+        }
+        if counts.busy > 0 {
+            rows.read_one();
         }
     }
     Ok(())
@@ -335,7 +341,11 @@ fn tell(rt: &HostRuntime, import: &Import, fault: &ImportFault) {
             tell_fault(rt, &import.server, *fault);
             eprintln!(rt; "{AGAIN}")
         }
+        ImportFault::File(_) if import.file.as_str() == "-" => {
+            eprintln!(rt; "hdl: -: {fault}: standard input is /dev/stdin")
+        }
         ImportFault::File(_) => eprintln!(rt; "hdl: {}: {fault}: check --csv", import.file),
+        ImportFault::Busy => eprintln!(rt; "hdl: {fault}{AGAIN}"),
         other => eprintln!(rt; "hdl: {other}"),
     };
 }
@@ -344,7 +354,7 @@ fn tell(rt: &HostRuntime, import: &Import, fault: &ImportFault) {
 /// each row and each handle that failed, and at the end how many came to what; progress on standard error. A handle that is there with
 /// just the values of its rows, whenever they were written, counts as done. An update asks first what is there, creates handles that
 /// aren't, brings the values of its rows to one that is, and prints what it changes. Answers the exit status: 0 where all handles are
-/// as the rows say, 1 where some aren't, or the key or every change is refused, 2 where nothing was sent, and 3 where the connection failed. A dry import tells
+/// as the rows say, 1 where some aren't, or the key or every change is refused, or the server stays busy, 2 where nothing was sent, and 3 where the connection failed. A dry import tells
 /// what is wrong with the file alone, and a dry update what it would change.
 pub fn import_file(rt: &HostRuntime, import: &Import) -> u8 {
     let mut counts = Counts::NONE;

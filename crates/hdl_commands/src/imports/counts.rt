@@ -14,7 +14,12 @@ pub(crate) enum Refusal {
     Key,
     /// The server takes no changes.
     ReadOnly,
+    /// The server takes none for some time: it was busy again and again.
+    Busy,
 }
+
+/// How many requests are answered busy, one after the other, until no more are sent.
+const BUSY_MOST: usize = 10;
 
 /// How many handles came to what.
 #[derive(Clone, Copy)]
@@ -23,6 +28,8 @@ pub(crate) struct Counts {
     pub changed: usize,
     pub there: usize,
     pub failed: usize,
+    /// How many of the last requests were answered busy.
+    pub busy: usize,
     pub refusal: Option<Refusal>,
 }
 
@@ -32,6 +39,7 @@ impl Counts {
         changed: 0,
         there: 0,
         failed: 0,
+        busy: 0,
         refusal: None,
     };
 
@@ -47,6 +55,14 @@ impl Counts {
     {
         if let Some(refusal) = refusal_by(task.request.handle(), code) {
             self.refusal = Some(refusal);
+        }
+        self.busy = if code == ResponseCode::ServerBusy.number() {
+            self.busy.saturating_add(1)
+        } else {
+            0
+        };
+        if self.busy >= BUSY_MOST && self.refusal.is_none() {
+            self.refusal = Some(Refusal::Busy);
         }
     }
 }

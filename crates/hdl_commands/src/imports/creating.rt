@@ -44,6 +44,7 @@ impl Outcomes for Creations<'_> {
     fn note_reply(&mut self, task: &Task, code: u32, _reply: &ReplyView<'_>) {
         if code == ResponseCode::Success.number() {
             self.counts.created = self.counts.created.saturating_add(1);
+            self.counts.busy = 0;
             return;
         }
         if code == ResponseCode::HandleAlreadyExists.number()
@@ -111,7 +112,12 @@ impl Outcomes for Comparisons<'_> {
         self.counts.fail();
         if code == ResponseCode::Success.number() {
             let found = ResponseCode::HandleAlreadyExists.number();
-            print_line(self.rt, task, found, ", with other values");
+            print_line(
+                self.rt,
+                task,
+                found,
+                ", with other values: --update --dry-run shows them",
+            );
         } else {
             print_code(self.rt, task, OpCode::Resolution, code);
         }

@@ -318,6 +318,11 @@ impl<'t> HandleRows<'t> {
         }
     }
 
+    /// Has the next call of [`HandleRows::fill`] read one handle, as the first did.
+    pub fn read_one(&mut self) {
+        self.most = FIRST_PART;
+    }
+
     /// Reads the first handle, then at each call the next thousand, or those that are left: none where no row is.
     pub fn fill<F: Faults>(&mut self, part: &mut Part, faults: &mut F) {
         part.clear();

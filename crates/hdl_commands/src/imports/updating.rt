@@ -155,6 +155,7 @@ fn send_step<S: Transport>(
     let code = reply.view().header.response_code;
     if code == ResponseCode::Success.number() {
         tell_step(rt, task, step, false);
+        counts.busy = 0;
         return Ok(true);
     }
     counts.note_code(task, code);

@@ -230,11 +230,18 @@ fn way_to_a_list(code: Option<ResponseCode>) -> &'static str {
 }
 
 /// Says on standard error why a replacement stopped.
-fn tell(rt: &HostRuntime, server: &str, fault: &ReplaceFault) {
+fn tell(rt: &HostRuntime, replacement: &Replacement, fault: &ReplaceFault) {
     let _ = match fault {
         ReplaceFault::Client(fault) => {
-            tell_fault(rt, server, *fault);
+            tell_fault(rt, &replacement.server, *fault);
             eprintln!(rt; "; start again: what was changed has no such URL any more")
+        }
+        ReplaceFault::Handles(_) => {
+            let file = match &replacement.handles {
+                Some(file) => file.as_str(),
+                None => "",
+            };
+            eprintln!(rt; "hdl: {file}: {fault}: check --handles")
         }
         ReplaceFault::List(number) => {
             let code = ResponseCode::of(*number);
@@ -254,7 +261,7 @@ pub fn replace_urls(rt: &HostRuntime, replacement: &Replacement) -> u8 {
     match run(rt, replacement) {
         Ok(status) => status,
         Err(fault) => {
-            tell(rt, &replacement.server, &fault);
+            tell(rt, replacement, &fault);
             fault.status()
         }
     }

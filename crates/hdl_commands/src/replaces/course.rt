@@ -1,5 +1,6 @@
 //! What is done with each handle of a replacement.
 
+use crate::asking::way_on;
 use crate::imports::{row_of, whole_values};
 use crate::replaces::asking::Replacement;
 use crate::replaces::data::{URL, all_replaced};
@@ -8,7 +9,7 @@ use crate::words::{code_name, line_of};
 use hdl_client::{ClientFault, Key, Session, Transport};
 use hdl_limits::{Items, Octets};
 use hdl_lines::printed_octets;
-use hdl_msg::{ContentView, RequestBody, ResponseCode};
+use hdl_msg::{ContentView, OpCode, RequestBody, ResponseCode};
 use hdl_name::Name;
 use hdl_value::Value;
 use std::alloc::{AllocError, Global};
@@ -21,6 +22,22 @@ pub(crate) struct Counts {
     pub changed: usize,
     pub kept: usize,
     pub failed: usize,
+}
+
+impl Counts {
+    /// Counts what came of a handle. A fault of the connection is none of the handle's.
+    fn count(&mut self, done: &Result<Outcome, ReplaceFault>) {
+        match done {
+            Ok(Outcome::Changed) => self.changed = self.changed.saturating_add(1),
+            Ok(Outcome::Kept) => self.kept = self.kept.saturating_add(1),
+            Ok(Outcome::Failed) => self.failed = self.failed.saturating_add(1),
+            Err(fault) => {
+                if fault.is_refusal() {
+                    self.failed = self.failed.saturating_add(1);
+                }
+            }
+        }
+    }
 }
 
 /// What each handle is done with.
@@ -39,6 +56,7 @@ pub(crate) struct Course<'r> {
 }
 
 /// What comes of a handle.
+#[derive(Clone, Copy)]
 enum Outcome {
     Changed,
     Kept,
@@ -78,8 +96,10 @@ impl Course<'_> {
         Ok(())
     }
 
-    fn tell_code(&self, handle: &[u8], code: u32) -> Result<(), AllocError> {
-        let what = format!(in self.rt.alloc(); "{code} {}", code_name(code))?;
+    /// Says that a request of this operation was answered by a code, and what to do.
+    fn tell_code(&self, handle: &[u8], operation: OpCode, code: u32) -> Result<(), AllocError> {
+        let way = way_on(operation, ResponseCode::of(code));
+        let what = format!(in self.rt.alloc(); "{code} {}{way}", code_name(code))?;
         self.tell(handle, &what)
     }
 
@@ -185,7 +205,7 @@ impl Course<'_> {
             Err(fault) => return Err(fault.into()),
         };
         if code != ResponseCode::Success.number() {
-            self.tell_code(handle, code)?;
+            self.tell_code(handle, OpCode::ModifyValue, code)?;
             return self.failed(code);
         }
         if let RequestBody::Modify { values, .. } = &body {
@@ -226,7 +246,7 @@ impl Course<'_> {
         let there = match urls_of(alloc, session, self, handle)? {
             Ok(values) => values,
             Err(code) => {
-                self.tell_code(handle, code)?;
+                self.tell_code(handle, OpCode::Resolution, code)?;
                 return self.failed(code);
             }
         };
@@ -256,13 +276,9 @@ impl Course<'_> {
         handles: &[Vec<u8>],
     ) -> Result<(), ReplaceFault> {
         for handle in handles {
-            let outcome = self.replace_one(session, handle)?;
-            let counts = &mut self.counts;
-            match outcome {
-                Outcome::Changed => counts.changed = counts.changed.saturating_add(1),
-                Outcome::Kept => counts.kept = counts.kept.saturating_add(1),
-                Outcome::Failed => counts.failed = counts.failed.saturating_add(1),
-            }
+            let done = self.replace_one(session, handle);
+            self.counts.count(&done);
+            done?;
         }
         Ok(())
     }

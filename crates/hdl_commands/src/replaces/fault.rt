@@ -15,7 +15,7 @@ pub(crate) enum ReplaceFault {
     Handles(io::Error),
     #[error("the file for --undo can't be made: {0}: name a file that isn't there")]
     Undo(io::Error),
-    #[error("the file for --undo can't be written: {0}")]
+    #[error("the file for --undo can't be written: {0}: make room; it has the old values of all that is printed as changed")]
     Unwritten(io::Error),
     #[error("{0}")]
     Client(ClientFault),
@@ -29,6 +29,11 @@ pub(crate) enum ReplaceFault {
 }
 
 impl ReplaceFault {
+    /// Whether a server refused what was asked for a handle, as it would for each later one.
+    pub fn is_refusal(&self) -> bool {
+        matches!(self, ReplaceFault::Refused | ReplaceFault::ReadOnly)
+    }
+
     pub fn status(&self) -> u8 {
         match self {
             ReplaceFault::Client(_) => 3,

@@ -1,27 +1,66 @@
 //! What a server tells of itself, and the words that a running one takes.
 
-use hdl_host::{Log, REOPEN, STOP, Supervision};
+use hdl_host::{Log, Monitoring, REOPEN, STOP};
 use hdl_programs::Fault;
+use hdl_server_options::ServeOptions;
+use std::fs;
 use std::io::{self, ErrorKind, Read, Write};
 use std::os::unix::net::UnixStream;
 
 /// The word that stands for standard error.
 const ERRORS: &str = "-";
 
-fn open_log(rt: &HostRuntime, path: &str, supervision: &mut Supervision) -> io::Result<()> {
+fn open_log(rt: &HostRuntime, path: &str, monitoring: &mut Monitoring) -> io::Result<()> {
     if path == ERRORS {
-        supervision.log = Some(Log::to_errors(rt.alloc())?);
+        monitoring.log = Some(Log::to_errors(rt.alloc())?);
         return Ok(());
     }
     let (log, file) = Log::to_file(rt, path)?;
-    supervision.log = Some(log);
-    supervision.log_file = Some(file);
+    monitoring.log = Some(log);
+    monitoring.log_file = Some(file);
     Ok(())
 }
 
+/// Whether two paths lead to one file that is there.
+pub fn is_one_file(rt: &HostRuntime, path: &str, other: &str) -> bool {
+    match (fs::canonicalize(rt, path), fs::canonicalize(rt, other)) {
+        (Ok(path), Ok(other)) => path.as_str() == other.as_str(),
+        _ => path == other,
+    }
+}
+
+/// The option that names the file at the path of the log too, if one does.
+fn option_at(rt: &HostRuntime, log: &str, options: &ServeOptions) -> Option<&'static str> {
+    if let Some(file) = &options.table {
+        if is_one_file(rt, log, file.path.as_str()) {
+            return Some("--table");
+        }
+    }
+    if let Some(text) = &options.text {
+        if is_one_file(rt, log, text.as_str()) {
+            return Some("--text");
+        }
+    }
+    None
+}
+
+/// Says on standard error that lines of the log would be written into the file of the table or of the tenants text. Answers whether that is so.
+pub fn say_log_taken(rt: &HostRuntime, options: &ServeOptions) -> bool {
+    let Some(log) = &options.supervision.log else {
+        return false;
+    };
+    let Some(option) = option_at(rt, log.as_str(), options) else {
+        return false;
+    };
+    let _ = eprintln!(rt;
+        "error: invalid value '{log}' for '--log <FILE>': this is the file of {option}: name another one\n\nFor more information, try '--help'."
+    );
+    true
+}
+
 /// Opens the log of changes. What can't be opened is said on standard error.
-pub fn take_log(rt: &HostRuntime, path: &str, supervision: &mut Supervision) -> Result<(), Fault> {
-    match open_log(rt, path, supervision) {
+pub fn take_log(rt: &HostRuntime, path: &str, monitoring: &mut Monitoring) -> Result<(), Fault> {
+    match open_log(rt, path, monitoring) {
         Ok(()) => Ok(()),
         Err(e) => {
             let _ = eprintln!(rt;
