@@ -16,8 +16,8 @@
 //! alone, and its JSON; `specs/Guarded.antt` that it is carried out only if that value is still as the form showed it ([`carry_form`]); `specs/Token.antt` which tokens are accepted; and `specs/Template.antt` that a page is markup of this crate with text escaped in its holes.
 //!
 //! ```rust
-//! // crates/hdl_web/src/gathering.rt
-//! match take_form(self.alloc, &self.board.tokens, place, sent)? {
+//! // crates/hdl_web/src/change_requests.rt
+//! match take_form(self.alloc, &self.shared.tokens, place, sent)? {
 //! ```
 #![tactic(auto)]
 

@@ -13,10 +13,10 @@
 //! ([`is_followed`]); a Location holds graphic ASCII alone; and text in a page is escaped.
 //!
 //! ```rust
-//! // crates/hdl_web/src/desk.rt
+//! // crates/hdl_web/src/service.rt
 //! match begin(self.alloc, own, sent.method, sent.path, sent.query)? {
-//!     Next::Answer(answer) => Ok(Turn::Made(Ok(answer))),
-//!     Next::Ask(question) => self.board.take(question, plain_path(sent)),
+//!     Next::Answer(answer) => Ok(Progress::Answered(Ok(answer))),
+//!     Next::Ask(question) => self.shared.take(question, plain_path(sent)),
 //! }
 //! ```
 #![tactic(auto)]

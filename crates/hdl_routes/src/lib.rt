@@ -14,9 +14,9 @@
 //! tried by one question at a time; and that a kept reply is found by its own request alone, while it is fresh and its handle wasn't changed.
 //!
 //! ```rust
-//! // crates/hdl_web/src/board.rt
+//! // crates/hdl_web/src/shared.rt
 //! let known = if self.routes.len() > 1 {
-//!     self.holders.lock(&self.rt).of(prefix, self.now())
+//!     self.owners.lock(&self.rt).of(prefix, self.now())
 //! } else {
 //!     None
 //! };

@@ -1,14 +1,14 @@
 //! An answer that is on its way.
 
 ghost use Rattle.std.specs.Prelude.{◌≡◌, ◌⊎◌, None, IfSome, IsSomeAnd};
-ghost use Rattle.hdl_web.specs.Turn.{Waits};
+ghost use Rattle.hdl_web.specs.Progress.{Waits};
 
-use crate::asks::Made;
-use crate::gathering::{Gathered, Gathering, Turn};
+use crate::asks::AnswerResult;
+use crate::change_requests::{Gathered, Gathering, Progress};
 use crate::log::Open;
+use crate::redirect_cache::KeptRedirect;
 use crate::response::response_of;
 use crate::text::OwnText;
-use crate::ways::KeptRedirect;
 use bytes::Bytes;
 use futures::task::{Context, Poll};
 use futures::{Future, ready};
@@ -51,8 +51,8 @@ impl ResponseContext {
 
 /// Who asks: the visit, where it can be counted, and what the response needs of the request. That is None where it needs nothing, or memory was refused.
 #[derive(Drop)]
-pub(crate) struct Guest<R> {
-    pub(crate) visit: Option<Open<R>>,
+pub(crate) struct RequestContext<R> {
+    pub(crate) entry: Option<Open<R>>,
     pub(crate) seen: Option<ResponseContext>,
 }
 
@@ -60,19 +60,23 @@ pub(crate) struct Guest<R> {
 #[derive(Drop)]
 pub struct Answering<R, B> {
     alloc: Global,
-    guest: Guest<R>,
+    request_context: RequestContext<R>,
     gathering: Option<Gathering<R, B>>,
-    turn: Option<Turn>,
+    turn: Option<Progress>,
 }
 
 impl<R: Wait + Clock + Drop, B: Drop> Answering<R, B> {
     /// An answer that is there, or that comes from a thread.
-    pub(crate) fn next(alloc: Global, guest: Guest<R>, turn: Turn) -> Answering<R, B>
+    pub(crate) fn next(
+        alloc: Global,
+        request_context: RequestContext<R>,
+        turn: Progress,
+    ) -> Answering<R, B>
         ensures { result.gathering ≡ None }
     {
         Answering {
             alloc,
-            guest,
+            request_context,
             gathering: None,
             turn: Some(turn),
         }
@@ -81,14 +85,14 @@ impl<R: Wait + Clock + Drop, B: Drop> Answering<R, B> {
     /// An answer that waits for the body of its request.
     pub(crate) fn gathering(
         alloc: Global,
-        guest: Guest<R>,
+        request_context: RequestContext<R>,
         gathering: Gathering<R, B>,
     ) -> Answering<R, B>
         ensures { result.gathering ≡ Some gathering }
     {
         Answering {
             alloc,
-            guest,
+            request_context,
             gathering: Some(gathering),
             turn: None,
         }
@@ -106,10 +110,22 @@ impl<R: Wait + Clock + Drop, B: Drop> Answering<R, B> {
     /// The response, where nothing is waited for.
     fn respond(&mut self) -> Result<Response<Full<Bytes>>, AllocError> {
         match self.turn.take() {
-            Some(Turn::Made(answer)) => response(self.alloc, &mut self.guest, answer),
-            Some(Turn::Text(text)) => response_of_text(self.alloc, &mut self.guest, &text),
-            Some(Turn::Led(way)) => response_of_way(self.alloc, &mut self.guest, &way),
-            Some(Turn::Coming(_)) | None => Err(AllocError),
+            Some(Progress::Answered(answer)) => response(
+                self.alloc,
+                &mut self.request_context,
+                answer,
+            ),
+            Some(Progress::Text(text)) => response_of_text(
+                self.alloc,
+                &mut self.request_context,
+                &text,
+            ),
+            Some(Progress::Redirected(way)) => response_of_way(
+                self.alloc,
+                &mut self.request_context,
+                &way,
+            ),
+            Some(Progress::Awaited(_)) | None => Err(AllocError),
         }
     }
 }
@@ -117,15 +133,15 @@ impl<R: Wait + Clock + Drop, B: Drop> Answering<R, B> {
 /// The response of an answer, with which the visit is over.
 fn response<R: Wait + Clock>(
     alloc: Global,
-    guest: &mut Guest<R>,
-    answer: Made,
+    request_context: &mut RequestContext<R>,
+    answer: AnswerResult,
 ) -> Result<Response<Full<Bytes>>, AllocError> {
-    let Some(seen) = &guest.seen else {
+    let Some(seen) = &request_context.seen else {
         return Err(AllocError);
     };
     let answer = seen.answer(alloc, answer?)?;
-    if let Some(visit) = &mut guest.visit {
-        visit.end(&answer);
+    if let Some(entry) = &mut request_context.entry {
+        entry.end(&answer);
     }
     response_of(alloc, &answer, seen.changes)
 }
@@ -133,11 +149,11 @@ fn response<R: Wait + Clock>(
 /// The response of a text of the proxy's own, with which the visit is over.
 fn response_of_text<R: Wait + Clock>(
     alloc: Global,
-    guest: &mut Guest<R>,
+    request_context: &mut RequestContext<R>,
     text: &OwnText,
 ) -> Result<Response<Full<Bytes>>, AllocError> {
-    if let Some(visit) = &mut guest.visit {
-        visit.note_end(text.status, text.text.len());
+    if let Some(entry) = &mut request_context.entry {
+        entry.note_end(text.status, text.text.len());
     }
     text.response(alloc)
 }
@@ -145,11 +161,11 @@ fn response_of_text<R: Wait + Clock>(
 /// The response of a redirect that was kept, with which the visit is over.
 fn response_of_way<R: Wait + Clock>(
     alloc: Global,
-    guest: &mut Guest<R>,
+    request_context: &mut RequestContext<R>,
     way: &KeptRedirect,
 ) -> Result<Response<Full<Bytes>>, AllocError> {
-    if let Some(visit) = &mut guest.visit {
-        visit.end_redirect(way.octets());
+    if let Some(entry) = &mut request_context.entry {
+        entry.end_redirect(way.octets());
     }
     way.response(alloc)
 }
@@ -167,9 +183,9 @@ impl<R: Wait + Clock + Drop, B: Future<Output = Gathered>> Future for Answering<
             let gathered = ready!(gathering.body.poll(cx));
             self.go_on_with(gathered);
         }
-        if let Some(Turn::Coming(from)) = &mut self.turn {
+        if let Some(Progress::Awaited(from)) = &mut self.turn {
             return match ready!(from.poll(cx)) {
-                Ok(answer) => Poll::Ready(response(self.alloc, &mut self.guest, answer)),
+                Ok(answer) => Poll::Ready(response(self.alloc, &mut self.request_context, answer)),
                 Err(_) => Poll::Ready(Err(AllocError)),
             };
         }

@@ -8,7 +8,7 @@ use std::alloc::{AllocError, Global};
 use std::vec::IntoIter;
 
 /// An answer, or that there was no memory for it.
-pub(crate) type Made = Result<Answer, AllocError>;
+pub(crate) type AnswerResult = Result<Answer, AllocError>;
 
 /// A question, which servers are still to be asked, what those came to that were, and where the answer goes.
 #[derive(Drop)]
@@ -22,7 +22,7 @@ pub(crate) struct Ask {
     pub(crate) since: u64,
     /// The token of the form that is made of the reply, where one is.
     pub(crate) token: Option<Vec<u8>>,
-    pub(crate) answer: oneshot::Sender<Made>,
+    pub(crate) answer: oneshot::Sender<AnswerResult>,
 }
 
 /// What is next for a question, now that this was answered: the page of a form where one is made of it.
@@ -49,7 +49,7 @@ fn no_answer(missed: Miss) -> NoAnswer {
 }
 
 /// The answer where no server gave a reply, so that there is no alias to follow.
-fn last_answer(next: Result<Next, AllocError>) -> Made {
+fn last_answer(next: Result<Next, AllocError>) -> AnswerResult {
     match next {
         Ok(Next::Answer(answer)) => Ok(answer),
         Ok(Next::Ask(question)) => {
@@ -71,7 +71,7 @@ impl Ask {
         self,
         reply: &[u8],
         chance: u64,
-    ) -> (Result<Next, AllocError>, oneshot::Sender<Made>) {
+    ) -> (Result<Next, AllocError>, oneshot::Sender<AnswerResult>) {
         let next = next_or_form(self.alloc, self.question, self.token, Ok(reply), chance);
         (next, self.answer)
     }

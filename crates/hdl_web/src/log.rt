@@ -1,7 +1,7 @@
 //! A line for each visit.
 
-use crate::board::Board;
 use crate::metrics::{AnswerKind, kind_of};
+use crate::shared::Shared;
 use crossbeam_channel::{Receiver, Sender};
 use hdl_proxy::{Answer, Status};
 use jiff_core::Timestamp;
@@ -48,7 +48,7 @@ const UNREAD: &str = "-";
 
 /// A visit that is over: what was asked for, and what was answered.
 #[derive(Drop)]
-pub(crate) struct Visit {
+pub(crate) struct AccessLogEntry {
     /// When it came, in milliseconds since 1970.
     moment: u64,
     method: String,
@@ -61,7 +61,7 @@ pub(crate) struct Visit {
 /// A visit that isn't over yet.
 #[derive(Drop)]
 pub(crate) struct Open<R> {
-    pub(crate) board: Arc<Board<R>>,
+    pub(crate) shared: Arc<Shared<R>>,
     asked: Option<RequestLine>,
 }
 
@@ -95,8 +95,8 @@ fn begin_line<R: Clock>(rt: &R, alloc: Global, method: &str, path: &str) -> Opti
 }
 
 /// The line of a request that `hyper` refused with this status, since its head couldn't be read; without memory there is none.
-fn unread<R: Clock>(rt: &R, alloc: Global, status: u16) -> Option<Visit> {
-    Some(Visit {
+fn unread<R: Clock>(rt: &R, alloc: Global, status: u16) -> Option<AccessLogEntry> {
+    Some(AccessLogEntry {
         moment: moment(rt),
         method: String::from_str(alloc, UNREAD).ok()?,
         path: String::from_str(alloc, UNREAD).ok()?,
@@ -106,56 +106,56 @@ fn unread<R: Clock>(rt: &R, alloc: Global, status: u16) -> Option<Visit> {
     })
 }
 
-impl<R: Wait + Clock> Board<R> {
+impl<R: Wait + Clock> Shared<R> {
     /// Sends a line on its way, or counts it as lost.
-    fn write(&self, visits: &Sender<Visit>, visit: Visit) {
-        if visits.len() >= LINES_MOST || visits.send(&self.rt, visit).is_err() {
+    fn write(&self, entries: &Sender<AccessLogEntry>, entry: AccessLogEntry) {
+        if entries.len() >= LINES_MOST || entries.send(&self.rt, entry).is_err() {
             self.counts.lost.fetch_add(1, Ordering::Relaxed);
         }
     }
 
     /// A request was refused with this status, since its head couldn't be read: its line is written, where any are.
     pub(crate) fn note_refusal(&self, status: u16) {
-        let Some(visits) = &self.visits else {
+        let Some(entries) = &self.entries else {
             return;
         };
-        if let Some(visit) = unread(&self.rt, self.alloc, status) {
-            self.write(visits, visit);
+        if let Some(entry) = unread(&self.rt, self.alloc, status) {
+            self.write(entries, entry);
         }
     }
 }
 
 impl<R: Wait + Clock> Open<R> {
     /// A visit begins. Without memory it has no line.
-    pub(crate) fn new(board: Arc<Board<R>>, method: &str, path: &str) -> Open<R> {
-        let asked = match &board.visits {
-            Some(_) => begin_line(&board.rt, board.alloc, method, path),
+    pub(crate) fn new(shared: Arc<Shared<R>>, method: &str, path: &str) -> Open<R> {
+        let asked = match &shared.entries {
+            Some(_) => begin_line(&shared.rt, shared.alloc, method, path),
             None => None,
         };
-        Open { board, asked }
+        Open { shared, asked }
     }
 
     /// Notes that the visit is over, with this answer: counts it, and writes its line.
     pub(crate) fn end(&mut self, answer: &Answer) {
         let status = answer.status.number();
-        self.board
+        self.shared
             .counts
-            .count_answer(&self.board.rt, kind_of(answer), status);
+            .count_answer(&self.shared.rt, kind_of(answer), status);
         self.note_end(status, answer.body.len());
     }
 
     /// Notes that the visit is over, with a redirect, and the length of its body in octets.
     pub(crate) fn end_redirect(&mut self, octets: usize) {
         let status = Status::Found.number();
-        self.board
+        self.shared
             .counts
-            .count_answer(&self.board.rt, AnswerKind::Redirect, status);
+            .count_answer(&self.shared.rt, AnswerKind::Redirect, status);
         self.note_end(status, octets);
     }
 
     /// Writes the visit's line, if there is a log.
     pub(crate) fn note_end(&mut self, status: u16, octets: usize) {
-        let (Some(visits), Some(asked)) = (&self.board.visits, self.asked.take()) else {
+        let (Some(entries), Some(asked)) = (&self.shared.entries, self.asked.take()) else {
             return;
         };
         let octets = if asked.method.as_str() == "HEAD" {
@@ -163,11 +163,11 @@ impl<R: Wait + Clock> Open<R> {
         } else {
             octets
         };
-        let microseconds = match asked.began.elapsed(&self.board.rt) {
+        let microseconds = match asked.began.elapsed(&self.shared.rt) {
             Ok(time) => time.as_micros(),
             Err(_) => 0,
         };
-        let visit = Visit {
+        let entry = AccessLogEntry {
             moment: asked.moment,
             method: asked.method,
             path: asked.path,
@@ -175,32 +175,32 @@ impl<R: Wait + Clock> Open<R> {
             octets,
             microseconds,
         };
-        self.board.write(visits, visit);
+        self.shared.write(entries, entry);
     }
 }
 
 /// The line of a visit: moment, method, path, status, octets, microseconds.
-fn line(alloc: Global, visit: &Visit) -> Result<String, AllocError> {
-    let nanoseconds = i128::from(visit.moment) * 1_000_000;
+fn line(alloc: Global, entry: &AccessLogEntry) -> Result<String, AllocError> {
+    let nanoseconds = i128::from(entry.moment) * 1_000_000;
     let mut line = String::new(alloc);
     if let Ok(moment) = Timestamp::from_nanosecond(nanoseconds) {
         line.push_str(DateTimePrinter::new().timestamp_text(moment).as_str())?;
     }
     line.push(' ')?;
-    percent_encode(visit.method.as_bytes(), IN_LINE).append_to(&mut line)?;
+    percent_encode(entry.method.as_bytes(), IN_LINE).append_to(&mut line)?;
     line.push(' ')?;
-    percent_encode(visit.path.as_bytes(), IN_LINE).append_to(&mut line)?;
+    percent_encode(entry.path.as_bytes(), IN_LINE).append_to(&mut line)?;
     let rest = format!(in alloc;
         " {} {} {}\n",
-        visit.status, visit.octets, visit.microseconds
+        entry.status, entry.octets, entry.microseconds
     )?;
     line.push_str(&rest)?;
     Ok(line)
 }
 
 /// Writes the line of a visit.
-fn write_line<W: Write>(alloc: Global, out: &mut W, visit: &Visit) -> bool {
-    let Ok(line) = line(alloc, visit) else {
+fn write_line<W: Write>(alloc: Global, out: &mut W, entry: &AccessLogEntry) -> bool {
+    let Ok(line) = line(alloc, entry) else {
         return false;
     };
     out.write_all(line.as_bytes()).is_ok() && out.flush().is_ok()
@@ -211,11 +211,11 @@ pub(crate) fn write_lines<R: Wait + Eprint, W: Write + Drop>(
     rt: &R,
     alloc: Global,
     mut out: W,
-    visits: Receiver<Visit>,
+    entries: Receiver<AccessLogEntry>,
 ) {
     let mut is_said = false;
-    for visit in visits.iter(rt) {
-        if !write_line(alloc, &mut out, &visit) && !is_said {
+    for entry in entries.iter(rt) {
+        if !write_line(alloc, &mut out, &entry) && !is_said {
             is_said = true;
             let _ = eprintln!(rt;
                 "hdl: --log: a line can't be written: the disk may be full. Requests are answered as before; lines may be lost"

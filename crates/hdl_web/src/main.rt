@@ -1,7 +1,7 @@
 //! The program `hdl proxy`, over HTTP/1.1: sockets, threads and time around `hdl_proxy`, which has what is asked and answered.
 //!
 //! ```text
-//! hyper, event loops -> Desk: begin -> at once, or a channel -> a thread for each asker: ask, next_step -> Answering -> hyper
+//! hyper, event loops -> ProxyService: begin -> at once, or a channel -> a thread for each asker: ask, next_step -> Answering -> hyper
 //!                      with --writes: begin_with_key, the body -> a channel -> one thread: carry_out -> Answering -> hyper
 //! ```
 //!
@@ -11,28 +11,28 @@
 //! `hdl` but this program needs `hyper`, so asking in words is proved without it.
 #![tactic(auto)]
 
+mod accepted;
 mod answering;
 mod asks;
-mod board;
-mod desk;
+mod change_requests;
 mod event_loop;
-mod gathering;
-mod holders;
 mod lifetime;
 mod log;
+mod logged;
 mod metrics;
-mod parting;
-mod patient;
+mod owners;
+mod redirect_cache;
 mod response;
 mod servers;
+mod service;
 mod serving;
-mod staff;
+mod shared;
 mod standbys;
 mod text;
-mod visitors;
-mod ways;
 mod words;
 mod worker;
+mod workers;
+mod write_timeout;
 
 use event_loop::listen_at;
 use hdl_copied::{CopiedHandles, read_copy};
@@ -42,7 +42,6 @@ use log::Log;
 use rand::make_rng;
 use servers::{OrderCarrier, Server};
 use serving::{Listening, serve_http};
-use staff::{Crew, Plan, Staff};
 use std::alloc::AllocError;
 use std::fs::OpenOptions;
 use std::io::{self, ErrorKind};
@@ -51,6 +50,7 @@ use std::process::ExitCode;
 use std::sync::Arc;
 use std::time::Duration;
 use words::{Invocation, ProxyWords, read_words};
+use workers::{Config, ProxyWorkers, UpstreamWorkers};
 
 /// Whether an address is a host, a colon and the number of a port. An IPv6 address is in brackets.
 fn has_port(address: &str) -> bool {
@@ -134,7 +134,9 @@ fn copied(rt: &HostRuntime, words: &ProxyWords) -> Result<Option<CopiedHandles>,
 }
 
 /// The same handles for another one who carries out orders.
-fn shared(copied: &Option<Arc<CopiedHandles>>) -> Result<Option<Arc<CopiedHandles>>, AllocError> {
+fn shared_copy(
+    copied: &Option<Arc<CopiedHandles>>,
+) -> Result<Option<Arc<CopiedHandles>>, AllocError> {
     match copied {
         Some(copied) => Ok(Some(Arc::try_clone(copied)?)),
         None => Ok(None),
@@ -156,35 +158,41 @@ fn writer(
         servers.push(asker(rt, words, route)?)?;
     }
     let rng = make_rng(rt)?;
-    let copied = shared(copied)?;
+    let copied = shared_copy(copied)?;
     Ok(Some(OrderCarrier::new(servers, rng, copied, Vec::new(rt.alloc()))))
 }
 
 /// The servers, and who asks each.
-fn hire(
+fn start_workers(
     rt: &HostRuntime,
     words: &ProxyWords,
     routes: Vec<Route>,
     copied: Option<CopiedHandles>,
-) -> io::Result<Staff<Server, OrderCarrier>> {
+) -> io::Result<ProxyWorkers<Server, OrderCarrier>> {
     let copied = match copied {
         Some(copied) => Some(Arc::new(rt.alloc(), copied)?),
         None => None,
     };
-    let mut crews = Vec::new(rt.alloc());
+    let mut all_workers = Vec::new(rt.alloc());
     for route in &routes {
         let askers = askers(rt, words, route)?;
-        let clerk = writer(rt, words, &routes, &copied)?;
-        crews.push(Crew { askers, clerk })?;
+        let change_servers = writer(rt, words, &routes, &copied)?;
+        all_workers.push(UpstreamWorkers {
+            askers,
+            change_servers,
+        })?;
     }
-    let plan = Plan {
+    let config = Config {
         site: site(rt, words)?,
         routes,
         limit: words.timeout.saturating_mul(1000),
         writes: words.writes,
         keeps: words.cache.saturating_mul(1000),
     };
-    Ok(Staff { plan, crews })
+    Ok(ProxyWorkers {
+        config,
+        all_workers,
+    })
 }
 
 /// The site of all pages.
@@ -208,6 +216,24 @@ fn is_address_fit(rt: &HostRuntime, words: &ProxyWords) -> bool {
     }
 }
 
+/// Whether the contact that the words name, if they name one, is a mail address or a URL. If it isn't, that is reported.
+fn is_contact_fit(rt: &HostRuntime, words: &ProxyWords) -> bool {
+    match &words.contact {
+        Some(contact) if !contact.contains('@') && !contact.contains("://") => {
+            let _ = eprintln!(rt;
+                "error: --contact {contact}: write a mail address or a URL, such as handles@example.org or https://example.org/contact"
+            );
+            false
+        }
+        _ => true,
+    }
+}
+
+/// Whether all that the words name has its form. What hasn't is reported.
+fn are_words_fit(rt: &HostRuntime, words: &ProxyWords) -> bool {
+    is_address_fit(rt, words) && is_contact_fit(rt, words) && are_addresses_fit(rt, words)
+}
+
 /// The log of visits, if there is one. A file that can't be written is reported.
 fn lines_to(rt: &HostRuntime, words: &ProxyWords) -> Result<Option<Log>, ExitCode> {
     let Some(path) = &words.log else {
@@ -229,6 +255,19 @@ fn lines_to(rt: &HostRuntime, words: &ProxyWords) -> Result<Option<Log>, ExitCod
     }
 }
 
+/// Whether each word for an address to listen at is an IP address with a port. The first that isn't is reported.
+fn are_addresses_fit(rt: &HostRuntime, words: &ProxyWords) -> bool {
+    for word in &words.listen {
+        if word.parse::<SocketAddr>().is_err() {
+            let _ = eprintln!(rt;
+                "error: --listen {word}: write an IP address with a port, such as 127.0.0.1:8080 or [::1]:8080"
+            );
+            return false;
+        }
+    }
+    true
+}
+
 /// Adds what listens at the address that this word names.
 fn listen(
     rt: &HostRuntime,
@@ -237,9 +276,7 @@ fn listen(
     listening: &mut Listening,
 ) -> io::Result<()> {
     let Ok(address) = word.parse::<SocketAddr>() else {
-        return Err(io::Error::other(
-            "not an IP address with a port: write one such as 127.0.0.1:8080",
-        ));
+        return Err(io::Error::from(ErrorKind::InvalidInput));
     };
     listen_at(rt, &mut listening.loops, address, words.threads)?;
     listening.addresses.push(address)?;
@@ -277,7 +314,7 @@ fn main(rt: HostRuntime) -> ExitCode {
         Invocation::Proxy(words) => words,
         Invocation::Ended(status) => return ExitCode::from(status),
     };
-    if !is_address_fit(&rt, &words) {
+    if !are_words_fit(&rt, &words) {
         return ExitCode::from(2);
     }
     let Some(routes) = routes(&rt, &words) else {
@@ -294,8 +331,8 @@ fn main(rt: HostRuntime) -> ExitCode {
     let Some(listening) = listening(&rt, &words) else {
         return ExitCode::from(1);
     };
-    let served = match hire(&rt, &words, routes, copied) {
-        Ok(staff) => serve_http(&rt, listening, staff, log, &mut rt.stdout()),
+    let served = match start_workers(&rt, &words, routes, copied) {
+        Ok(workers_of_all) => serve_http(&rt, listening, workers_of_all, log, &mut rt.stdout()),
         Err(fault) => Err(fault),
     };
     if let Err(fault) = served {

@@ -1,6 +1,6 @@
 //! What is counted, and how it is printed.
 
-use crate::board::{Board, ServerRecord};
+use crate::shared::{Shared, Upstream};
 use hdl_programs::VERSION;
 use hdl_proxy::{Answer, Media};
 use std::alloc::{AllocError, Global};
@@ -142,15 +142,15 @@ impl ServerMetric {
     }
 }
 
-impl<R: Wait + Clock> Board<R> {
-    fn count_of(&self, metric: ServerMetric, post: &ServerRecord) -> u64 {
+impl<R: Wait + Clock> Shared<R> {
+    fn count_of(&self, metric: ServerMetric, upstream: &Upstream) -> u64 {
         match metric {
-            ServerMetric::Asked => post.asked.load(Ordering::Relaxed),
-            ServerMetric::Failed => post.failed.load(Ordering::Relaxed),
+            ServerMetric::Asked => upstream.asked.load(Ordering::Relaxed),
+            ServerMetric::Failed => upstream.failed.load(Ordering::Relaxed),
             ServerMetric::LeftOut => {
-                u64::from(post.standing.lock(&self.rt).is_left_out(self.now()))
+                u64::from(upstream.standing.lock(&self.rt).is_left_out(self.now()))
             }
-            ServerMetric::Waiting => post.asks.len() as u64,
+            ServerMetric::Waiting => upstream.asks.len() as u64,
         }
     }
 
@@ -161,8 +161,8 @@ impl<R: Wait + Clock> Board<R> {
             text,
             "# HELP hdl_proxy_server_{name} {help}\n# TYPE hdl_proxy_server_{name} {kind}"
         )?;
-        for (route, post) in self.routes.iter().zip(self.posts.iter()) {
-            let count = self.count_of(metric, post);
+        for (route, upstream) in self.routes.iter().zip(self.upstreams.iter()) {
+            let count = self.count_of(metric, upstream);
             writeln!(
                 text,
                 "hdl_proxy_server_{name}{{server=\"{}\"}} {count}",
@@ -194,8 +194,6 @@ impl<R: Wait + Clock> Board<R> {
     /// Whether a server is asked.
     pub(crate) fn is_fit(&self) -> bool {
         let now = self.now();
-        self.posts
-            .iter()
-            .any(|post| !post.standing.lock(&self.rt).is_left_out(now))
+        self.upstreams.iter().any(|upstream| !upstream.standing.lock(&self.rt).is_left_out(now))
     }
 }

@@ -180,12 +180,12 @@ impl OrderCarrier {
 }
 
 /// A service of which the next order's requests go to servers in turn.
-pub trait Clerk: ChangeServer {
+pub trait ChangeServers: ChangeServer {
     /// The next requests go to the servers at these places.
     fn turn_to(&mut self, turn: Vec<usize>);
 }
 
-impl Clerk for OrderCarrier {
+impl ChangeServers for OrderCarrier {
     fn turn_to(&mut self, turn: Vec<usize>) {
         self.turn = turn;
     }

@@ -1,15 +1,15 @@
 //! The proxy over sockets.
 
-use crate::board::Board;
-use crate::desk::Desk;
+use crate::accepted::{AcceptedConnections, ConnectionHandler};
 use crate::event_loop::EventLoop;
-use crate::log::{Visit, write_lines};
-use crate::parting::Parting;
-use crate::patient::Patient;
-use crate::servers::{Clerk, Resolver};
-use crate::staff::{Staff, start_asking};
+use crate::log::{AccessLogEntry, write_lines};
+use crate::logged::LoggedConnection;
+use crate::servers::{ChangeServers, Resolver};
+use crate::service::ProxyService;
+use crate::shared::Shared;
 use crate::standbys::{Notice, write_notices};
-use crate::visitors::{ConnectionHandler, Visitors};
+use crate::workers::{ProxyWorkers, start_asking};
+use crate::write_timeout::WriteTimeout;
 use bytes::Bytes;
 use crossbeam_channel::{Receiver, Sender, unbounded};
 use http_body_util::Full;
@@ -49,25 +49,28 @@ pub(crate) fn with_limits<T: Timer>(mut http: Builder<T>) -> Builder<T> {
 
 /// What all connections share.
 #[derive(Drop)]
-struct Reception<R> {
+struct ConnectionFactory<R> {
     rt: R,
     alloc: Global,
     http: Builder<TokioTimer<R>>,
     timers: Handle,
-    board: Arc<Board<R>>,
+    shared: Arc<Shared<R>>,
 }
 
-impl<R: Wait + Clock + Copy + Drop> ConnectionHandler for Reception<R> {
-    type Served = Parting<R, Connection<Patient<R>, Desk<R>, Full<Bytes>, TokioTimer<R>>>;
+impl<R: Wait + Clock + Copy + Drop> ConnectionHandler for ConnectionFactory<R> {
+    type Served = LoggedConnection<
+        R,
+        Connection<WriteTimeout<R>, ProxyService<R>, Full<Bytes>, TokioTimer<R>>,
+    >;
 
     fn receive(&self, socket: TcpStream) -> Option<Self::Served> {
         let timers = self.timers.clone().ok()?;
         let theirs = self.timers.clone().ok()?;
-        let board = Arc::try_clone(&self.board).ok()?;
-        let told = Arc::try_clone(&self.board).ok()?;
-        let socket = Patient::new(socket, self.rt, timers);
-        let desk = Desk::new(self.rt, self.alloc, theirs, board);
-        Some(Parting::new(self.http.serve_connection(socket, desk), told))
+        let shared = Arc::try_clone(&self.shared).ok()?;
+        let told = Arc::try_clone(&self.shared).ok()?;
+        let socket = WriteTimeout::new(socket, self.rt, timers);
+        let service = ProxyService::new(self.rt, self.alloc, theirs, shared);
+        Some(LoggedConnection::new(self.http.serve_connection(socket, service), told))
     }
 
     fn rest(&self) -> Option<Sleep> {
@@ -80,34 +83,38 @@ impl<R: Wait + Clock + Copy + Drop> ConnectionHandler for Reception<R> {
 fn open_reception<R>(
     rt: &R,
     runtime: &LocalRuntime,
-    board: Arc<Board<R>>,
-) -> io::Result<Reception<R>>
+    shared: Arc<Shared<R>>,
+) -> io::Result<ConnectionFactory<R>>
 where
     R: Wait + Clock + RandomSource + AllocGlobal + Copy + Drop,
 {
     let timers = runtime.handle().time().clone()?;
     let timer = TokioTimer::new(*rt, timers.clone()?);
     let http = with_limits(Builder::new(rt.alloc(), RandomState::new(rt)?).timer(timer));
-    Ok(Reception {
+    Ok(ConnectionFactory {
         rt: *rt,
         alloc: rt.alloc(),
         http,
         timers,
-        board,
+        shared,
     })
 }
 
 /// Serves every connection, on this thread.
-fn serve_all<R, H>(rt: &R, runtime: &mut LocalRuntime, visitors: Visitors<H>) -> io::Result<()>
+fn serve_all<R, H>(
+    rt: &R,
+    runtime: &mut LocalRuntime,
+    accepted: AcceptedConnections<H>,
+) -> io::Result<()>
 where
     R: Wait + Clock + RandomSource + AllocGlobal,
     H: ConnectionHandler,
 {
-    runtime.run_all(rt, visitors)
+    runtime.run_all(rt, accepted)
 }
 
 /// Serves the connections of an event loop's listener, whose questions and orders go to this board.
-fn serve_loop<R>(rt: &R, event_loop: EventLoop, board: Arc<Board<R>>) -> io::Result<()>
+fn serve_loop<R>(rt: &R, event_loop: EventLoop, shared: Arc<Shared<R>>) -> io::Result<()>
 where
     R: Wait + Clock + RandomSource + AllocGlobal + Copy + Drop,
 {
@@ -115,26 +122,26 @@ where
         mut runtime,
         listener,
     } = event_loop;
-    let reception = open_reception(rt, &runtime, board)?;
+    let factory = open_reception(rt, &runtime, shared)?;
     serve_all(
         rt,
         &mut runtime,
-        Visitors::new(listener.incoming(), reception),
+        AcceptedConnections::new(listener.incoming(), factory),
     )
 }
 
 /// Serves each event loop on a thread of its own. Where one of them ends, all do, with its fault.
-fn serve_loops<R>(rt: &R, loops: Vec<EventLoop>, board: Arc<Board<R>>) -> io::Result<()>
+fn serve_loops<R>(rt: &R, loops: Vec<EventLoop>, shared: Arc<Shared<R>>) -> io::Result<()>
 where
     R: Wait + Threads + Clock + RandomSource + AllocGlobal + Copy + Send + Sync + Drop + 'static,
 {
     let (ended, ends) = unbounded(rt.alloc())?;
     for event_loop in loops {
         let theirs = *rt;
-        let board = Arc::try_clone(&board)?;
+        let shared = Arc::try_clone(&shared)?;
         let ended = ended.clone()?;
         drop(thread::spawn(rt, move || {
-            let end = serve_loop(&theirs, event_loop, board);
+            let end = serve_loop(&theirs, event_loop, shared);
             let _ = ended.send(&theirs, end);
         })?);
     }
@@ -152,7 +159,7 @@ fn say_addresses(output: &mut impl Write, addresses: &[SocketAddr]) -> io::Resul
 }
 
 /// Starts the thread that writes the lines of visits, where they are written.
-fn start_log<R, L>(rt: &R, log: Option<L>) -> io::Result<Option<Sender<Visit>>>
+fn start_log<R, L>(rt: &R, log: Option<L>) -> io::Result<Option<Sender<AccessLogEntry>>>
 where
     R: Wait + Threads + Eprint + AllocGlobal + Copy + Send + Drop + 'static,
     L: Write + Send + Drop + 'static,
@@ -161,18 +168,18 @@ where
         return Ok(None);
     };
     let alloc = rt.alloc();
-    let (visits, come) = unbounded(alloc)?;
+    let (entries, come) = unbounded(alloc)?;
     let theirs = *rt;
     drop(thread::spawn(rt, move || write_lines(&theirs, alloc, out, come))?);
-    Ok(Some(visits))
+    Ok(Some(entries))
 }
 
 /// Starts the thread that writes the lines about servers.
-fn start_notices<R>(rt: &R, board: &Arc<Board<R>>, come: Receiver<Notice>) -> io::Result<()>
+fn start_notices<R>(rt: &R, shared: &Arc<Shared<R>>, come: Receiver<Notice>) -> io::Result<()>
 where
     R: Wait + Threads + Clock + Eprint + AllocGlobal + Copy + Send + Sync + Drop + 'static,
 {
-    let theirs = Arc::try_clone(board)?;
+    let theirs = Arc::try_clone(shared)?;
     drop(thread::spawn(rt, move || write_notices(&theirs, come))?);
     Ok(())
 }
@@ -189,7 +196,7 @@ pub struct Listening {
 pub fn serve_http<R, S, C, L>(
     rt: &R,
     listening: Listening,
-    staff: Staff<S, C>,
+    workers_of_all: ProxyWorkers<S, C>,
     log: Option<L>,
     output: &mut impl Write,
 ) -> io::Result<()>
@@ -206,14 +213,14 @@ where
         + Drop
         + 'static,
     S: Resolver + Send + 'static,
-    C: Clerk + Send + 'static,
+    C: ChangeServers + Send + 'static,
     L: Write + Send + Drop + 'static,
 {
     let Listening { addresses, loops } = listening;
-    let visits = start_log(rt, log)?;
+    let entries = start_log(rt, log)?;
     let (notices, come) = unbounded(rt.alloc())?;
-    let board = start_asking(rt, staff, visits, notices)?;
-    start_notices(rt, &board, come)?;
+    let shared = start_asking(rt, workers_of_all, entries, notices)?;
+    start_notices(rt, &shared, come)?;
     say_addresses(output, &addresses)?;
-    serve_loops(rt, loops, board)
+    serve_loops(rt, loops, shared)
 }

@@ -1,6 +1,6 @@
 //! How servers stand, and when standbys answer: the lines that say so.
 
-use crate::board::Board;
+use crate::shared::Shared;
 use crossbeam_channel::{Receiver, Sender};
 use hdl_client::{ClientFault, ConnectFault};
 use std::fmt;
@@ -80,7 +80,7 @@ impl Standbys {
     }
 }
 
-impl<R: Wait + Clock> Board<R> {
+impl<R: Wait + Clock> Shared<R> {
     /// Sends a line on its way. One that has no room is lost.
     fn tell(&self, place: usize, news: News) {
         if self.standbys.notices.len() < NOTICES_MOST {
@@ -119,10 +119,10 @@ impl<R: Wait + Clock> Board<R> {
 }
 
 /// Writes these lines, until no sender is left.
-pub(crate) fn write_notices<R: Wait + Eprint>(board: &Board<R>, notices: Receiver<Notice>) {
-    for notice in notices.iter(&board.rt) {
-        if let Some(route) = board.routes.get(notice.place) {
-            let _ = eprintln!(&board.rt; "hdl: {}: this {}", route.address, notice.news);
+pub(crate) fn write_notices<R: Wait + Eprint>(shared: &Shared<R>, notices: Receiver<Notice>) {
+    for notice in notices.iter(&shared.rt) {
+        if let Some(route) = shared.routes.get(notice.place) {
+            let _ = eprintln!(&shared.rt; "hdl: {}: this {}", route.address, notice.news);
         }
     }
 }

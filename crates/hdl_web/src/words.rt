@@ -225,6 +225,14 @@ fn text(alloc: Global, word: Option<&str>) -> Result<Option<String>, AllocError>
     }
 }
 
+/// The site's name. An empty one is as none.
+fn site_of<'a>(found: &ArgMatches<'a>) -> &'a str {
+    match found.get_str("site") {
+        Some(name) if !name.is_empty() => name,
+        _ => SITE,
+    }
+}
+
 /// What the words say.
 fn proxy_words(alloc: Global, found: &ArgMatches<'_>) -> Result<ProxyWords, AllocError> {
     Ok(ProxyWords {
@@ -234,7 +242,7 @@ fn proxy_words(alloc: Global, found: &ArgMatches<'_>) -> Result<ProxyWords, Allo
         standbys: texts(alloc, found.get_strs("standby").unwrap_or(&[]))?,
         askers: found.get_one::<u64>("askers").unwrap_or(ASKERS),
         timeout: found.get_one::<u64>("timeout").unwrap_or(TIMEOUT),
-        site: String::from_str(alloc, found.get_str("site").unwrap_or(SITE))?,
+        site: String::from_str(alloc, site_of(found))?,
         contact: text(alloc, found.get_str("contact"))?,
         address: text(alloc, found.get_str("address"))?,
         redirects: found.get_one::<u64>("browser-cache").unwrap_or(REDIRECTS),

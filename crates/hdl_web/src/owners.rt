@@ -13,23 +13,23 @@ const REMEMBERED: u64 = 60_000;
 
 /// The server at this place has a prefix, until a moment.
 #[derive(Clone, Copy)]
-struct Holder {
+struct PrefixOwner {
     place: usize,
     until: u64,
 }
 
 /// Which server has which prefix, by earlier answers. It changes which server is asked first, and nothing else.
 #[derive(Drop)]
-pub(crate) struct Holders {
+pub(crate) struct PrefixOwners {
     alloc: Global,
-    kept: LruCache<Vec<u8>, Holder, RandomState>,
+    kept: LruCache<Vec<u8>, PrefixOwner, RandomState>,
 }
 
-impl Holders {
-    pub(crate) fn new(alloc: Global, hasher: RandomState) -> Result<Holders, AllocError> {
+impl PrefixOwners {
+    pub(crate) fn new(alloc: Global, hasher: RandomState) -> Result<PrefixOwners, AllocError> {
         let most = NonZeroUsize::new(PREFIXES_MOST).unwrap_or(NonZeroUsize::MIN);
         let kept = LruCache::with_hasher(alloc, most, hasher)?;
-        Ok(Holders { alloc, kept })
+        Ok(PrefixOwners { alloc, kept })
     }
 
     /// The place of the server that has this prefix, if that is known at this moment.
@@ -44,7 +44,7 @@ impl Holders {
     pub(crate) fn note(&mut self, prefix: &[u8], place: usize, now: u64) {
         let until = now.saturating_add(REMEMBERED);
         if let Ok(key) = Vec::from_slice(self.alloc, prefix) {
-            let _ = self.kept.put(key, Holder { place, until });
+            let _ = self.kept.put(key, PrefixOwner { place, until });
         }
     }
 }

@@ -2,11 +2,11 @@
 
 ghost use Rattle.std.specs.Prelude.{◌≡◌};
 
-use crate::asks::Made;
-use crate::board::{Board, WAITING_MOST};
+use crate::asks::AnswerResult;
+use crate::redirect_cache::KeptRedirect;
+use crate::shared::{Shared, WAITING_MOST};
 use crate::text::OwnText;
-use crate::ways::KeptRedirect;
-use crate::worker::{Errand, as_page};
+use crate::worker::{ChangeJob, as_page};
 use bytes::Bytes;
 use crossbeam_channel::Sender;
 use futures::channel::oneshot;
@@ -31,20 +31,20 @@ pub(crate) type Gathered = Result<Result<Collected, LimitedError<hyper::Error>>,
 
 /// What is next for a request.
 #[derive(Drop)]
-pub(crate) enum Turn {
-    Made(Made),
-    Coming(oneshot::Receiver<Made>),
+pub(crate) enum Progress {
+    Answered(AnswerResult),
+    Awaited(oneshot::Receiver<AnswerResult>),
     /// A text of the proxy's own.
     Text(OwnText),
     /// A redirect that was kept.
-    Led(Arc<KeptRedirect>),
+    Redirected(Arc<KeptRedirect>),
 }
 
 /// The way to who carries out orders.
 #[derive(Drop)]
-pub(crate) struct Counter<R> {
+pub(crate) struct ChangeQueue<R> {
     pub(crate) alloc: Global,
-    pub(crate) board: Arc<Board<R>>,
+    pub(crate) shared: Arc<Shared<R>>,
 }
 
 const ELSEWHERE: &str = "None of the servers that were asked hosts this prefix. Nothing was done.";
@@ -62,43 +62,43 @@ pub(crate) enum Purpose {
     Form(FormPlace),
 }
 
-impl<R: Wait + Clock> Counter<R> {
+impl<R: Wait + Clock> ChangeQueue<R> {
     /// Sends an order to who carries it out.
     fn send(
         &self,
-        errands: &Sender<Errand>,
+        jobs: &Sender<ChangeJob>,
         turn: Vec<usize>,
         bundle: Bundle,
-    ) -> Result<Turn, AllocError> {
+    ) -> Result<Progress, AllocError> {
         let Bundle { order, body, form } = bundle;
         let (answer, from) = oneshot::channel(self.alloc)?;
-        let errand = Errand {
+        let job = ChangeJob {
             order,
             turn,
             body,
             form,
             answer,
         };
-        match errands.send(&self.board.rt, errand) {
-            Ok(()) => Ok(Turn::Coming(from)),
+        match jobs.send(&self.shared.rt, job) {
+            Ok(()) => Ok(Progress::Awaited(from)),
             Err(_) => Err(AllocError),
         }
     }
 
-    fn hand_on(&self, bundle: Bundle) -> Result<Turn, AllocError> {
-        let Some((errands, turn)) = self.board.clerk(bundle.order.name.prefix())? else {
+    fn hand_on(&self, bundle: Bundle) -> Result<Progress, AllocError> {
+        let Some((jobs, turn)) = self.shared.change_servers(bundle.order.name.prefix())? else {
             let code = ResponseCode::HandleNotFound;
             return Ok(self.refuse_order(bundle, Status::NotFound, code, ELSEWHERE));
         };
-        if errands.len() >= WAITING_MOST {
+        if jobs.len() >= WAITING_MOST {
             let code = ResponseCode::ServerBusy;
             return Ok(self.refuse_order(bundle, Status::Unavailable, code, CROWDED));
         }
-        self.send(errands, turn, bundle)
+        self.send(jobs, turn, bundle)
     }
 
     /// Hands an order on with the body of its request.
-    pub(crate) fn take(&self, order: Order, body: Bytes) -> Turn {
+    pub(crate) fn take(&self, order: Order, body: Bytes) -> Progress {
         turn_of(self.hand_on(Bundle {
             order,
             body,
@@ -106,7 +106,13 @@ impl<R: Wait + Clock> Counter<R> {
         }))
     }
 
-    fn refuse_order(&self, bundle: Bundle, status: Status, code: ResponseCode, why: &str) -> Turn {
+    fn refuse_order(
+        &self,
+        bundle: Bundle,
+        status: Status,
+        code: ResponseCode,
+        why: &str,
+    ) -> Progress {
         let made = refusal(
             self.alloc,
             status,
@@ -114,17 +120,17 @@ impl<R: Wait + Clock> Counter<R> {
             code.number(),
             why,
         );
-        Turn::Made(as_page(self.alloc, bundle.form, made))
+        Progress::Answered(as_page(self.alloc, bundle.form, made))
     }
 
     /// What is next for a form with this body.
-    fn take_form(&self, place: &FormPlace, body: &[u8]) -> Result<Turn, AllocError> {
+    fn take_form(&self, place: &FormPlace, body: &[u8]) -> Result<Progress, AllocError> {
         let sent = SentForm {
-            now: self.board.seconds(),
+            now: self.shared.seconds(),
             body,
         };
-        match take_form(self.alloc, &self.board.tokens, place, sent)? {
-            FormStep::Page(answer) => Ok(Turn::Made(Ok(answer))),
+        match take_form(self.alloc, &self.shared.tokens, place, sent)? {
+            FormStep::Page(answer) => Ok(Progress::Answered(Ok(answer))),
             FormStep::Order(ordered, form) => {
                 let FormOrder { order, body } = ordered;
                 self.hand_on(Bundle {
@@ -137,7 +143,7 @@ impl<R: Wait + Clock> Counter<R> {
     }
 
     /// What is next for a request with this body.
-    fn take_body(&self, purpose: Purpose, body: Bytes) -> Turn {
+    fn take_body(&self, purpose: Purpose, body: Bytes) -> Progress {
         match purpose {
             Purpose::Order(order) => self.take(order, body),
             Purpose::Form(place) => turn_of(self.take_form(&place, &body)),
@@ -145,27 +151,27 @@ impl<R: Wait + Clock> Counter<R> {
     }
 
     /// What is answered to a request whose body doesn't come whole.
-    fn refuse(&self, purpose: Purpose, status: Status, why: &str) -> Turn {
+    fn refuse(&self, purpose: Purpose, status: Status, why: &str) -> Progress {
         let code = ResponseCode::Error.number();
-        Turn::Made(match purpose {
+        Progress::Answered(match purpose {
             Purpose::Order(order) => refusal(self.alloc, status, order.name.sent(), code, why),
             Purpose::Form(place) => refuse_unread(self.alloc, &place, status),
         })
     }
 
     /// Takes the body of a request, where that came whole and in time.
-    pub(crate) fn take_gathered(&self, purpose: Purpose, gathered: Gathered) -> Turn {
+    pub(crate) fn take_gathered(&self, purpose: Purpose, gathered: Gathered) -> Progress {
         match gathered {
             Ok(Ok(collected)) => match collected.to_bytes() {
                 Ok(body) => self.take_body(purpose, body),
-                Err(refused) => Turn::Made(Err(refused)),
+                Err(refused) => Progress::Answered(Err(refused)),
             },
             Ok(Err(LimitedError::LengthLimit)) => self.refuse(
                 purpose,
                 Status::ContentTooLarge,
                 LARGE,
             ),
-            Ok(Err(_)) => Turn::Made(Err(AllocError)),
+            Ok(Err(_)) => Progress::Answered(Err(AllocError)),
             Err(_) => self.refuse(purpose, Status::RequestTimeout, SLOW),
         }
     }
@@ -180,29 +186,29 @@ struct Bundle {
 }
 
 /// What is next, or that there was no memory.
-fn turn_of(next: Result<Turn, AllocError>) -> Turn {
+fn turn_of(next: Result<Progress, AllocError>) -> Progress {
     match next {
         Ok(turn) => turn,
-        Err(refused) => Turn::Made(Err(refused)),
+        Err(refused) => Progress::Answered(Err(refused)),
     }
 }
 
 /// A request whose body comes.
 #[derive(Drop)]
 pub(crate) struct Gathering<R, B> {
-    pub(crate) counter: Counter<R>,
+    pub(crate) change_queue: ChangeQueue<R>,
     pub(crate) purpose: Purpose,
     pub(crate) body: B,
 }
 
 impl<R: Wait + Clock + Drop, B: Drop> Gathering<R, B> {
     /// What is next, now that this came of the body.
-    pub(crate) fn end(self, gathered: Gathered) -> Turn {
+    pub(crate) fn end(self, gathered: Gathered) -> Progress {
         let Gathering {
-            counter,
+            change_queue,
             purpose,
             body: _,
         } = self;
-        counter.take_gathered(purpose, gathered)
+        change_queue.take_gathered(purpose, gathered)
     }
 }

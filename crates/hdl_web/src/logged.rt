@@ -1,6 +1,6 @@
 //! The end of a connection.
 
-use crate::board::Board;
+use crate::shared::Shared;
 use futures::Future;
 use futures::task::{Context, Poll};
 use std::alloc::Global;
@@ -29,20 +29,20 @@ fn refusal_of(alloc: Global, fault: &hyper::Error) -> Option<u16> {
 
 /// A connection, of which only matters whether it ended with a request that couldn't be read.
 #[derive(Drop)]
-pub(crate) struct Parting<R, F> {
+pub(crate) struct LoggedConnection<R, F> {
     inner: F,
-    board: Arc<Board<R>>,
+    shared: Arc<Shared<R>>,
 }
 
-impl<R: Drop, F: Future> Parting<R, F> {
-    pub(crate) fn new(inner: F, board: Arc<Board<R>>) -> Parting<R, F>
+impl<R: Drop, F: Future> LoggedConnection<R, F> {
+    pub(crate) fn new(inner: F, shared: Arc<Shared<R>>) -> LoggedConnection<R, F>
         ensures { F.can_poll inner → F.can_poll result.inner }
     {
-        Parting { inner, board }
+        LoggedConnection { inner, shared }
     }
 }
 
-impl<R, F> Future for Parting<R, F>
+impl<R, F> Future for LoggedConnection<R, F>
 where
     R: Wait + Clock + Drop,
     F: Future<Output = hyper::Result<()>>,
@@ -56,8 +56,8 @@ where
     fn poll(&mut self, cx: &mut Context<'_>) -> Poll<()> {
         match self.inner.poll(cx) {
             Poll::Ready(Err(fault)) => {
-                if let Some(status) = refusal_of(self.board.alloc, &fault) {
-                    self.board.note_refusal(status);
+                if let Some(status) = refusal_of(self.shared.alloc, &fault) {
+                    self.shared.note_refusal(status);
                 }
                 Poll::Ready(())
             }

@@ -93,16 +93,16 @@ fn way_of(
 
 /// Redirects by the paths that they answer, the ones that were used last.
 #[derive(Drop)]
-struct Ways {
+struct RedirectCache {
     alloc: Global,
     ways: LruCache<String, Arc<KeptRedirect>, RandomState>,
 }
 
-impl Ways {
-    fn new(alloc: Global, hasher: RandomState) -> Result<Ways, AllocError> {
+impl RedirectCache {
+    fn new(alloc: Global, hasher: RandomState) -> Result<RedirectCache, AllocError> {
         let most = NonZeroUsize::new(WAYS_MOST).unwrap_or(NonZeroUsize::MIN);
         let ways = LruCache::with_hasher(alloc, most, hasher)?;
-        Ok(Ways { alloc, ways })
+        Ok(RedirectCache { alloc, ways })
     }
 
     fn find(&mut self, path: &str) -> Option<Arc<KeptRedirect>> {
@@ -125,7 +125,7 @@ impl Ways {
 #[derive(Drop)]
 pub(crate) struct KeptAnswers {
     pub(crate) kept: KeptReplies,
-    ways: Ways,
+    ways: RedirectCache,
 }
 
 impl KeptAnswers {
@@ -136,7 +136,7 @@ impl KeptAnswers {
     ) -> Result<KeptAnswers, AllocError> {
         Ok(KeptAnswers {
             kept: KeptReplies::new(alloc, hasher)?,
-            ways: Ways::new(alloc, other)?,
+            ways: RedirectCache::new(alloc, other)?,
         })
     }
 

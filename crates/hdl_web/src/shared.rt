@@ -1,15 +1,15 @@
 //! What all share: the servers, who waits for each, and how each stands.
 
-use crate::asks::{Ask, Made};
-use crate::gathering::Turn;
-use crate::holders::Holders;
+use crate::asks::{AnswerResult, Ask};
+use crate::change_requests::Progress;
 use crate::lifetime::lifetime;
-use crate::log::Visit;
+use crate::log::AccessLogEntry;
 use crate::metrics::Counts;
+use crate::owners::PrefixOwners;
+use crate::redirect_cache::{KeptAnswers, KeptRedirect};
 use crate::servers::Resolver;
 use crate::standbys::Standbys;
-use crate::ways::{KeptAnswers, KeptRedirect};
-use crate::worker::Errand;
+use crate::worker::ChangeJob;
 use crossbeam_channel::Sender;
 use futures::channel::oneshot;
 use hdl_client::{ClientFault, Reply};
@@ -29,16 +29,16 @@ pub(crate) const WAITING_MOST: usize = 256;
 
 /// What all know of a server.
 #[derive(Drop)]
-pub(crate) struct ServerRecord {
+pub(crate) struct Upstream {
     pub(crate) asks: Sender<Ask>,
-    pub(crate) errands: Option<Sender<Errand>>,
+    pub(crate) jobs: Option<Sender<ChangeJob>>,
     pub(crate) standing: Mutex<Standing>,
     /// How many questions it was asked, and how many of these it failed to answer.
     pub(crate) asked: AtomicU64,
     pub(crate) failed: AtomicU64,
 }
 
-impl ServerRecord {
+impl Upstream {
     /// Notes that the server answered, and whether it had failed.
     fn note_answer<R: Wait>(&self, rt: &R) -> bool {
         let mut standing = self.standing.lock(rt);
@@ -59,14 +59,14 @@ impl ServerRecord {
 
 /// The servers, and what is known of them.
 #[derive(Drop)]
-pub struct Board<R> {
+pub struct Shared<R> {
     pub(crate) rt: R,
     pub(crate) alloc: Global,
     /// The site of all pages.
     pub(crate) site: Arc<Site>,
     pub(crate) routes: Vec<Route>,
-    pub(crate) posts: Vec<ServerRecord>,
-    pub(crate) holders: Mutex<Holders>,
+    pub(crate) upstreams: Vec<Upstream>,
+    pub(crate) owners: Mutex<PrefixOwners>,
     pub(crate) began: Instant,
     /// How many milliseconds an answer of a server may take.
     pub(crate) limit: u64,
@@ -75,14 +75,14 @@ pub struct Board<R> {
     /// With what the tokens of forms are made.
     pub(crate) tokens: TokenKey,
     /// What is kept, and replies for how many milliseconds at most, where any are.
-    pub(crate) shelf: Option<Mutex<KeptAnswers>>,
+    pub(crate) cache: Option<Mutex<KeptAnswers>>,
     pub(crate) keeps: u64,
     pub(crate) counts: Counts,
     pub(crate) standbys: Standbys,
     /// How many numbers were drawn, from a random one on, in steps that are odd.
     pub(crate) drawn: AtomicU64,
     /// Where lines of visits go, where any are written.
-    pub(crate) visits: Option<Sender<Visit>>,
+    pub(crate) entries: Option<Sender<AccessLogEntry>>,
 }
 
 /// A question as far as what is kept answers it: the answer, or a question that no kept reply answers, its message, and which servers to ask.
@@ -100,7 +100,7 @@ fn is_holder(code: Option<ResponseCode>) -> bool {
     )
 }
 
-impl<R: Wait + Clock> Board<R> {
+impl<R: Wait + Clock> Shared<R> {
     /// The moment, in milliseconds. Where the clock fails it is the last one, at which no server is left out.
     pub(crate) fn now(&self) -> u64 {
         match self.began.elapsed(&self.rt) {
@@ -127,7 +127,7 @@ impl<R: Wait + Clock> Board<R> {
     /// The servers to ask for handles of this prefix, in turn.
     pub(crate) fn turn(&self, prefix: &[u8]) -> Result<Vec<usize>, AllocError> {
         let known = if self.routes.len() > 1 {
-            self.holders.lock(&self.rt).of(prefix, self.now())
+            self.owners.lock(&self.rt).of(prefix, self.now())
         } else {
             None
         };
@@ -136,9 +136,9 @@ impl<R: Wait + Clock> Board<R> {
 
     /// The reply to this message that is kept, if one is.
     fn kept_reply(&self, message: &[u8]) -> Option<Vec<u8>> {
-        let shelf = self.shelf.as_ref()?;
+        let cache = self.cache.as_ref()?;
         let now = self.now();
-        shelf.lock(&self.rt).kept.find(message, now)
+        cache.lock(&self.rt).kept.find(message, now)
     }
 
     /// The reply that is kept for a question with this message, unless a server is to be asked anew.
@@ -151,36 +151,36 @@ impl<R: Wait + Clock> Board<R> {
 
     /// The redirect that answers a request of this path alone, if one is kept.
     pub(crate) fn way(&self, path: &str) -> Option<Arc<KeptRedirect>> {
-        let shelf = self.shelf.as_ref()?;
+        let cache = self.cache.as_ref()?;
         let now = self.now();
-        let way = shelf.lock(&self.rt).way(path, now)?;
+        let way = cache.lock(&self.rt).way(path, now)?;
         self.counts.kept.fetch_add(1, Ordering::Relaxed);
         Some(way)
     }
 
     /// Keeps what a request of this path alone was answered by, as its question's reply says.
     fn keep_way(&self, path: &str, message: Vec<u8>, reply: Vec<u8>, answer: &Answer) {
-        if let Some(shelf) = &self.shelf {
-            shelf.lock(&self.rt).keep_way(path, message, reply, answer);
+        if let Some(cache) = &self.cache {
+            cache.lock(&self.rt).keep_way(path, message, reply, answer);
         }
     }
 
     /// What is known of changes of this handle, where anything is kept.
     fn mark(&self, name: &Name) -> Option<Mark> {
-        let shelf = self.shelf.as_ref()?;
-        Some(shelf.lock(&self.rt).kept.mark(name.canon()))
+        let cache = self.cache.as_ref()?;
+        Some(cache.lock(&self.rt).kept.mark(name.canon()))
     }
 
     /// This handle was changed, or may have been: what is kept of it is given no more.
     pub(crate) fn forget(&self, name: &Name) {
-        if let Some(shelf) = &self.shelf {
-            shelf.lock(&self.rt).kept.forget(name.canon());
+        if let Some(cache) = &self.cache {
+            cache.lock(&self.rt).kept.forget(name.canon());
         }
     }
 
     /// Keeps a reply, for as long as it may be kept. The mark was there before it was asked for.
     fn keep(&self, message: &[u8], reply: &Reply, mark: Option<Mark>) {
-        let (Some(shelf), Some(mark)) = (&self.shelf, mark) else {
+        let (Some(cache), Some(mark)) = (&self.cache, mark) else {
             return;
         };
         let Some(seconds) = lifetime(self.alloc, &reply.view()) else {
@@ -188,7 +188,7 @@ impl<R: Wait + Clock> Board<R> {
         };
         let now = self.now();
         let time = seconds.saturating_mul(1000).min(self.keeps);
-        shelf
+        cache
             .lock(&self.rt)
             .kept
             .keep(message, reply.message(), mark, now, time);
@@ -229,13 +229,17 @@ impl<R: Wait + Clock> Board<R> {
     }
 
     /// Takes a question: it is answered by what is kept, or its answer comes. `path` is that of its request, where nothing else is asked by it.
-    pub(crate) fn take(&self, question: Question, path: Option<&str>) -> Result<Turn, AllocError> {
+    pub(crate) fn take(
+        &self,
+        question: Question,
+        path: Option<&str>,
+    ) -> Result<Progress, AllocError> {
         match self.find_known(question, path)? {
-            Known::Answer(answer) => Ok(Turn::Made(Ok(answer))),
+            Known::Answer(answer) => Ok(Progress::Answered(Ok(answer))),
             Known::Open(question, message, turn) => {
                 let (answer, from) = oneshot::channel(self.alloc)?;
                 self.send(question, message, turn, None, answer);
-                Ok(Turn::Coming(from))
+                Ok(Progress::Awaited(from))
             }
         }
     }
@@ -245,15 +249,15 @@ impl<R: Wait + Clock> Board<R> {
         &self,
         question: Question,
         token: Vec<u8>,
-    ) -> Result<Turn, AllocError> {
+    ) -> Result<Progress, AllocError> {
         let Some(message) = question.message(self.alloc)? else {
             let answer = finish(self.alloc, &question, Err(NoAnswer::Unreachable), 0)?;
-            return Ok(Turn::Made(Ok(answer)));
+            return Ok(Progress::Answered(Ok(answer)));
         };
         let turn = self.turn(question.name.prefix())?.into_iter();
         let (answer, from) = oneshot::channel(self.alloc)?;
         self.send(question, message, turn, Some(token), answer);
-        Ok(Turn::Coming(from))
+        Ok(Progress::Awaited(from))
     }
 
     /// Sends a question on its way to these servers.
@@ -263,7 +267,7 @@ impl<R: Wait + Clock> Board<R> {
         message: Vec<u8>,
         turn: IntoIter<usize>,
         token: Option<Vec<u8>>,
-        answer: oneshot::Sender<Made>,
+        answer: oneshot::Sender<AnswerResult>,
     ) {
         self.forward(Ask {
             alloc: self.alloc,
@@ -278,7 +282,7 @@ impl<R: Wait + Clock> Board<R> {
     }
 
     /// Goes on with the question that an alias led to.
-    fn resume(&self, question: Question, answer: oneshot::Sender<Made>) {
+    fn resume(&self, question: Question, answer: oneshot::Sender<AnswerResult>) {
         match self.find_known(question, None) {
             Ok(Known::Open(question, message, turn)) => {
                 self.send(question, message, turn, None, answer);
@@ -289,10 +293,10 @@ impl<R: Wait + Clock> Board<R> {
     }
 
     /// Why the server at this place isn't to be asked, if it isn't.
-    fn obstacle(&self, post: &ServerRecord, now: u64) -> Option<Miss> {
-        if post.standing.lock(&self.rt).is_left_out(now) {
+    fn obstacle(&self, upstream: &Upstream, now: u64) -> Option<Miss> {
+        if upstream.standing.lock(&self.rt).is_left_out(now) {
             Some(Miss::Unreachable)
-        } else if post.asks.len() >= WAITING_MOST {
+        } else if upstream.asks.len() >= WAITING_MOST {
             Some(Miss::Crowded)
         } else {
             None
@@ -300,15 +304,15 @@ impl<R: Wait + Clock> Board<R> {
     }
 
     /// The next server that is to be asked, if there is one; why those before it aren't is noted.
-    fn next_post(&self, ask: &mut Ask) -> Option<&ServerRecord> {
+    fn next_post(&self, ask: &mut Ask) -> Option<&Upstream> {
         let Ask { turn, missed, .. } = ask;
         for place in turn {
-            let Some(post) = self.posts.get(place) else {
+            let Some(upstream) = self.upstreams.get(place) else {
                 continue;
             };
-            match self.obstacle(post, ask.since) {
+            match self.obstacle(upstream, ask.since) {
                 Some(miss) => *missed = worst(*missed, miss),
-                None => return Some(post),
+                None => return Some(upstream),
             }
         }
         None
@@ -318,21 +322,21 @@ impl<R: Wait + Clock> Board<R> {
     pub(crate) fn forward(&self, mut ask: Ask) {
         ask.since = self.now();
         match self.next_post(&mut ask) {
-            Some(post) => {
-                let _ = post.asks.send(&self.rt, ask);
+            Some(upstream) => {
+                let _ = upstream.asks.send(&self.rt, ask);
             }
             None => ask.end(),
         }
     }
 
     /// Whether a question that waited may be asked now at the server of this post; why not is noted.
-    fn admits(&self, post: &ServerRecord, ask: &mut Ask) -> bool {
+    fn admits(&self, upstream: &Upstream, ask: &mut Ask) -> bool {
         let now = self.now();
         if now.saturating_sub(ask.since) > self.limit {
             ask.miss(Miss::Crowded);
             return false;
         }
-        let admitted = post.standing.lock(&self.rt).admits(now, self.limit);
+        let admitted = upstream.standing.lock(&self.rt).admits(now, self.limit);
         if !admitted {
             ask.miss(Miss::Unreachable);
         }
@@ -350,7 +354,7 @@ impl<R: Wait + Clock> Board<R> {
             self.note_standby(place);
         } else if self.routes.len() > 1 && is_holder(code) {
             let prefix = ask.question.name.prefix();
-            self.holders.lock(&self.rt).note(prefix, place, self.now());
+            self.owners.lock(&self.rt).note(prefix, place, self.now());
         }
         self.keep(&ask.message, reply, mark);
         let (next, answer) = ask.next(reply.message(), self.chance());
@@ -363,24 +367,24 @@ impl<R: Wait + Clock> Board<R> {
 
     /// Asks the server at this place, and answers, or hands the question on.
     pub(crate) fn serve<S: Resolver>(&self, place: usize, server: &mut S, mut ask: Ask) {
-        let Some(post) = self.posts.get(place) else {
+        let Some(upstream) = self.upstreams.get(place) else {
             return ask.end();
         };
-        if !self.admits(post, &mut ask) {
+        if !self.admits(upstream, &mut ask) {
             return self.forward(ask);
         }
-        post.asked.fetch_add(1, Ordering::Relaxed);
+        upstream.asked.fetch_add(1, Ordering::Relaxed);
         let mark = self.mark(&ask.question.name);
         match server.ask(&ask.message) {
             Ok(reply) => {
-                if post.note_answer(&self.rt) {
+                if upstream.note_answer(&self.rt) {
                     self.note_return(place);
                 }
                 self.take_reply(place, ask, &reply, mark);
             }
             Err(ClientFault::Memory) => ask.refuse(),
             Err(fault) => {
-                if post.note_failure(&self.rt, self.now()) {
+                if upstream.note_failure(&self.rt, self.now()) {
                     self.tell_failure(place, fault);
                 }
                 ask.miss(Miss::Unreachable);
@@ -391,21 +395,21 @@ impl<R: Wait + Clock> Board<R> {
 
     /// The way to the thread that carries out the changes of handles of this prefix, and the servers that they go to, in turn. None where no server has the prefix, or no
     /// changes are made.
-    pub(crate) fn clerk(
+    pub(crate) fn change_servers(
         &self,
         prefix: &[u8],
-    ) -> Result<Option<(&Sender<Errand>, Vec<usize>)>, AllocError> {
+    ) -> Result<Option<(&Sender<ChangeJob>, Vec<usize>)>, AllocError> {
         let turn = places_to_change(self.alloc, &self.routes, prefix)?;
         let Some(first) = turn.first() else {
             return Ok(None);
         };
-        match self.posts.get(*first) {
+        match self.upstreams.get(*first) {
             Some(
-                ServerRecord {
-                    errands: Some(errands),
+                Upstream {
+                    jobs: Some(jobs),
                     ..
                 },
-            ) => Ok(Some((errands, turn))),
+            ) => Ok(Some((jobs, turn))),
             _ => Ok(None),
         }
     }

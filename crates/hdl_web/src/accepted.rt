@@ -25,15 +25,15 @@ pub(crate) trait ConnectionHandler: Drop {
 
 /// Each connection of a listener, as its host serves it.
 #[derive(Drop)]
-pub(crate) struct Visitors<H> {
+pub(crate) struct AcceptedConnections<H> {
     incoming: Incoming,
     host: H,
     resting: Option<Sleep>,
 }
 
-impl<H: ConnectionHandler> Visitors<H> {
-    pub(crate) fn new(incoming: Incoming, host: H) -> Visitors<H> {
-        Visitors {
+impl<H: ConnectionHandler> AcceptedConnections<H> {
+    pub(crate) fn new(incoming: Incoming, host: H) -> AcceptedConnections<H> {
+        AcceptedConnections {
             incoming,
             host,
             resting: None,
@@ -60,7 +60,7 @@ impl<H: ConnectionHandler> Visitors<H> {
     }
 }
 
-impl<H: ConnectionHandler> Stream for Visitors<H> {
+impl<H: ConnectionHandler> Stream for AcceptedConnections<H> {
     type Item = H::Served;
 
     ghost yields = { λ _. ItemsWhere H.Served.can_poll };

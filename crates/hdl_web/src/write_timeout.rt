@@ -16,7 +16,7 @@ const WRITE_SECONDS: u64 = 10;
 
 /// A socket whose writes give up where the client has taken nothing for ten seconds.
 #[derive(Drop)]
-pub(crate) struct Patient<R> {
+pub(crate) struct WriteTimeout<R> {
     socket: TcpStream,
     clock: R,
     timers: Handle,
@@ -24,9 +24,9 @@ pub(crate) struct Patient<R> {
     stuck: Option<Sleep>,
 }
 
-impl<R: Clock + Drop> Patient<R> {
-    pub(crate) fn new(socket: TcpStream, clock: R, timers: Handle) -> Patient<R> {
-        Patient {
+impl<R: Clock + Drop> WriteTimeout<R> {
+    pub(crate) fn new(socket: TcpStream, clock: R, timers: Handle) -> WriteTimeout<R> {
+        WriteTimeout {
             socket,
             clock,
             timers,
@@ -52,7 +52,7 @@ impl<R: Clock + Drop> Patient<R> {
     }
 }
 
-impl<R: Clock + Drop> AsyncRead for Patient<R> {
+impl<R: Clock + Drop> AsyncRead for WriteTimeout<R> {
     ghost reads = { λ _ _ _. ⊤ };
 
     ghost is_at_end = { λ _. ⊤ };
@@ -66,7 +66,7 @@ impl<R: Clock + Drop> AsyncRead for Patient<R> {
     }
 }
 
-impl<R: Clock + Drop> AsyncWrite for Patient<R> {
+impl<R: Clock + Drop> AsyncWrite for WriteTimeout<R> {
     ghost writes = { λ _ _ _. ⊤ };
 
     ghost writes_nothing = { λ _. tt };

@@ -1,11 +1,11 @@
 //! Where requests come in.
 
-use crate::answering::{Answering, Guest, ResponseContext};
-use crate::board::Board;
-use crate::gathering::{BODY_MOST, BODY_SECONDS, Counter, Gathering, Purpose, Turn};
+use crate::answering::{Answering, RequestContext, ResponseContext};
+use crate::change_requests::{BODY_MOST, BODY_SECONDS, ChangeQueue, Gathering, Progress, Purpose};
 use crate::log::Open;
+use crate::redirect_cache::KeptRedirect;
+use crate::shared::Shared;
 use crate::text::{OwnText, TextKind};
-use crate::ways::KeptRedirect;
 use bytes::Bytes;
 use hdl_forms::{FormPlace, Offer, Sender, form_at, form_question, new_page, refuse_foreign};
 use hdl_proxy::{Next, begin};
@@ -23,19 +23,19 @@ use tokio::time::{Handle, Timeout};
 
 /// The service of one connection: it answers at once what needs no server, and hands on what does.
 #[derive(Drop)]
-pub struct Desk<R> {
+pub struct ProxyService<R> {
     rt: R,
     alloc: Global,
     timers: Handle,
-    board: Arc<Board<R>>,
+    shared: Arc<Shared<R>>,
 }
 
 /// What a request is.
 #[derive(Drop)]
 enum Start<R> {
-    Turn(Turn),
+    Progress(Progress),
     /// It waits for its body, and then this takes it.
-    Body(Purpose, Counter<R>),
+    Body(Purpose, ChangeQueue<R>),
 }
 
 /// The field by which a browser says whether a page of the same site sent a request (Fetch Metadata).
@@ -94,75 +94,82 @@ fn plain_path(sent: SentRequest<'_>) -> Option<&str> {
     }
 }
 
-impl<R: Wait + Clock + Copy + Drop> Desk<R> {
-    pub(crate) fn new(rt: R, alloc: Global, timers: Handle, board: Arc<Board<R>>) -> Desk<R> {
-        Desk {
+impl<R: Wait + Clock + Copy + Drop> ProxyService<R> {
+    pub(crate) fn new(
+        rt: R,
+        alloc: Global,
+        timers: Handle,
+        shared: Arc<Shared<R>>,
+    ) -> ProxyService<R> {
+        ProxyService {
             rt,
             alloc,
             timers,
-            board,
+            shared,
         }
     }
 
     /// A visit begins. None where it can't be counted.
-    fn visit<B>(&self, req: &Request<B>) -> Option<Open<R>> {
-        let board = Arc::try_clone(&self.board).ok()?;
-        Some(Open::new(board, req.method().as_str(), req.uri().path()))
+    fn entry<B>(&self, req: &Request<B>) -> Option<Open<R>> {
+        let shared = Arc::try_clone(&self.shared).ok()?;
+        Some(Open::new(shared, req.method().as_str(), req.uri().path()))
     }
 
     /// What becomes of a request that comes without a key.
-    fn take(&self, sent: SentRequest<'_>) -> Result<Turn, AllocError> {
-        let own = self.board.site.address();
+    fn take(&self, sent: SentRequest<'_>) -> Result<Progress, AllocError> {
+        let own = self.shared.site.address();
         match begin(self.alloc, own, sent.method, sent.path, sent.query)? {
-            Next::Answer(answer) => Ok(Turn::Made(Ok(answer))),
-            Next::Ask(question) => self.board.take(question, plain_path(sent)),
+            Next::Answer(answer) => Ok(Progress::Answered(Ok(answer))),
+            Next::Ask(question) => self.shared.take(question, plain_path(sent)),
         }
     }
 
     fn begin(&self, sent: SentRequest<'_>) -> Result<Start<R>, AllocError> {
-        if !self.board.writes {
-            return Ok(Start::Turn(self.take(sent)?));
+        if !self.shared.writes {
+            return Ok(Start::Progress(self.take(sent)?));
         }
         match begin_with_key(self.alloc, sent)? {
-            Begun::Answer(answer) => Ok(Start::Turn(Turn::Made(Ok(answer)))),
-            Begun::Other => Ok(Start::Turn(self.take(sent)?)),
+            Begun::Answer(answer) => Ok(Start::Progress(Progress::Answered(Ok(answer)))),
+            Begun::Other => Ok(Start::Progress(self.take(sent)?)),
             Begun::Order(order) if order.takes_body() => {
-                Ok(Start::Body(Purpose::Order(order), self.counter()?))
+                Ok(Start::Body(Purpose::Order(order), self.change_queue()?))
             }
-            Begun::Order(order) => Ok(Start::Turn(self.counter()?.take(order, Bytes::new()))),
+            Begun::Order(order) => Ok(Start::Progress(
+                self.change_queue()?.take(order, Bytes::new()),
+            )),
         }
     }
 
-    fn counter(&self) -> Result<Counter<R>, AllocError> {
-        Ok(Counter {
+    fn change_queue(&self) -> Result<ChangeQueue<R>, AllocError> {
+        Ok(ChangeQueue {
             alloc: self.alloc,
-            board: Arc::try_clone(&self.board)?,
+            shared: Arc::try_clone(&self.shared)?,
         })
     }
 
     /// The form of a page, with a token of this moment.
-    fn show_form(&self, place: FormPlace) -> Result<Turn, AllocError> {
-        let now = self.board.seconds();
+    fn show_form(&self, place: FormPlace) -> Result<Progress, AllocError> {
+        let now = self.shared.seconds();
         let token = self
-            .board
+            .shared
             .tokens
             .token_of(self.alloc, place.subject(), now)?;
         match place {
             FormPlace::Edit(name) => {
                 let question = form_question(self.alloc, name);
-                self.board.take_for_form(question, token)
+                self.shared.take_for_form(question, token)
             }
-            FormPlace::New => Ok(Turn::Made(new_page(self.alloc, &token))),
+            FormPlace::New => Ok(Progress::Answered(new_page(self.alloc, &token))),
         }
     }
 
     /// What a request of this form is.
     fn start_form<B>(&self, req: &Request<B>, place: FormPlace) -> Result<Start<R>, AllocError> {
         match req.method().as_str() {
-            "GET" | "HEAD" => Ok(Start::Turn(self.show_form(place)?)),
+            "GET" | "HEAD" => Ok(Start::Progress(self.show_form(place)?)),
             "POST" => match refuse_foreign(self.alloc, &place, sender_of(req))? {
-                Some(answer) => Ok(Start::Turn(Turn::Made(Ok(answer)))),
-                None => Ok(Start::Body(Purpose::Form(place), self.counter()?)),
+                Some(answer) => Ok(Start::Progress(Progress::Answered(Ok(answer)))),
+                None => Ok(Start::Body(Purpose::Form(place), self.change_queue()?)),
             },
             _ => self.begin(sent_by(req)),
         }
@@ -170,7 +177,7 @@ impl<R: Wait + Clock + Copy + Drop> Desk<R> {
 
     /// The form that a request is for, where handles are changed.
     fn form_of(&self, sent: SentRequest<'_>) -> Result<Option<FormPlace>, AllocError> {
-        if self.board.writes {
+        if self.shared.writes {
             form_at(self.alloc, sent.path, sent.query)
         } else {
             Ok(None)
@@ -188,16 +195,16 @@ impl<R: Wait + Clock + Copy + Drop> Desk<R> {
             None => None,
         };
         Ok(ResponseContext {
-            site: Arc::try_clone(&self.board.site)?,
+            site: Arc::try_clone(&self.shared.site)?,
             known,
-            changes: self.board.writes,
+            changes: self.shared.writes,
             offer: offer_at(req.uri().path()),
         })
     }
 
     /// The redirect that is kept for a request, if one is. No path under `/api/` has one, so a key that came along says nothing.
     fn way<B>(&self, req: &Request<B>) -> Option<Arc<KeptRedirect>> {
-        self.board.way(plain_path(first_line(req))?)
+        self.shared.way(plain_path(first_line(req))?)
     }
 
     /// The page of the proxy itself, if one is asked for.
@@ -209,9 +216,9 @@ impl<R: Wait + Clock + Copy + Drop> Desk<R> {
             "/metrics" => Ok(Some(OwnText {
                 status: 200,
                 kind: TextKind::Metrics,
-                text: self.board.metrics()?,
+                text: self.shared.metrics()?,
             })),
-            "/health" if self.board.is_fit() => {
+            "/health" if self.shared.is_fit() => {
                 Ok(Some(OwnText::of_words(self.alloc, 200, "ok\n")?))
             }
             "/health" => {
@@ -226,7 +233,7 @@ impl<R: Wait + Clock + Copy + Drop> Desk<R> {
     fn start<B>(&self, req: &Request<B>) -> Result<Start<R>, AllocError> {
         let sent = sent_by(req);
         if let Some(text) = self.own_text(sent)? {
-            return Ok(Start::Turn(Turn::Text(text)));
+            return Ok(Start::Progress(Progress::Text(text)));
         }
         match self.form_of(sent)? {
             Some(place) => self.start_form(req, place),
@@ -238,7 +245,7 @@ impl<R: Wait + Clock + Copy + Drop> Desk<R> {
 /// The body of a request, up to its limits of length and time.
 type LimitedBody<I> = Timeout<Collect<Limited<Incoming<I>>>>;
 
-impl<R: Wait + Clock + Copy + Drop, I: Drop> Service<Request<Incoming<I>>> for Desk<R> {
+impl<R: Wait + Clock + Copy + Drop, I: Drop> Service<Request<Incoming<I>>> for ProxyService<R> {
     type Response = Response<Full<Bytes>>;
 
     type Error = AllocError;
@@ -246,31 +253,39 @@ impl<R: Wait + Clock + Copy + Drop, I: Drop> Service<Request<Incoming<I>>> for D
     type Future = Answering<R, LimitedBody<I>>;
 
     fn call(&self, req: Request<Incoming<I>>) -> Answering<R, LimitedBody<I>> {
-        let visit = self.visit(&req);
+        let entry = self.entry(&req);
         if let Some(way) = self.way(&req) {
-            let guest = Guest { visit, seen: None };
-            return Answering::next(self.alloc, guest, Turn::Led(way));
+            let request_context = RequestContext { entry, seen: None };
+            return Answering::next(self.alloc, request_context, Progress::Redirected(way));
         }
         let seen = self.read_fields(&req).ok();
-        let guest = Guest { visit, seen };
-        let (purpose, counter) = match self.start(&req) {
-            Ok(Start::Body(purpose, counter)) => (purpose, counter),
-            Ok(Start::Turn(turn)) => return Answering::next(self.alloc, guest, turn),
-            Err(refused) => return Answering::next(self.alloc, guest, Turn::Made(Err(refused))),
+        let request_context = RequestContext { entry, seen };
+        let (purpose, change_queue) = match self.start(&req) {
+            Ok(Start::Body(purpose, change_queue)) => (purpose, change_queue),
+            Ok(Start::Progress(turn)) => return Answering::next(self.alloc, request_context, turn),
+            Err(refused) => return Answering::next(
+                self.alloc,
+                request_context,
+                Progress::Answered(Err(refused)),
+            ),
         };
         let body = Limited::new(req.into_body(), BODY_MOST).collect(self.alloc);
         let limit = Duration::from_secs(BODY_SECONDS);
         match self.timers.timeout(&self.rt, limit, body) {
             Ok(body) => Answering::gathering(
                 self.alloc,
-                guest,
+                request_context,
                 Gathering {
-                    counter,
+                    change_queue,
                     purpose,
                     body,
                 },
             ),
-            Err(_) => Answering::next(self.alloc, guest, Turn::Made(Err(AllocError))),
+            Err(_) => Answering::next(
+                self.alloc,
+                request_context,
+                Progress::Answered(Err(AllocError)),
+            ),
         }
     }
 }

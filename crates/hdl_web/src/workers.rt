@@ -1,14 +1,14 @@
 //! Who asks each server.
 
 use crate::asks::Ask;
-use crate::board::{Board, ServerRecord};
-use crate::holders::Holders;
-use crate::log::Visit;
+use crate::log::AccessLogEntry;
 use crate::metrics::Counts;
-use crate::servers::{Clerk, Resolver};
+use crate::owners::PrefixOwners;
+use crate::redirect_cache::KeptAnswers;
+use crate::servers::{ChangeServers, Resolver};
+use crate::shared::{Shared, Upstream};
 use crate::standbys::{Notice, Standbys};
-use crate::ways::KeptAnswers;
-use crate::worker::{Errand, work, work_on_orders};
+use crate::worker::{ChangeJob, work, work_on_orders};
 use crossbeam_channel::{Receiver, Sender, unbounded};
 use hdl_forms::TokenKey;
 use hdl_proxy::Site;
@@ -24,14 +24,14 @@ use std::time::{Clock, Instant};
 
 /// Who asks a server: as many as questions are asked of it at once, and who carries out orders that go to it first, if any are taken.
 #[derive(Drop)]
-pub struct Crew<S, C> {
+pub struct UpstreamWorkers<S, C> {
     pub askers: Vec<S>,
-    pub clerk: Option<C>,
+    pub change_servers: Option<C>,
 }
 
 /// The servers, how many milliseconds an answer of each may take, what is kept, and the site of all pages.
 #[derive(Drop)]
-pub struct Plan {
+pub struct Config {
     pub site: Site,
     pub routes: Vec<Route>,
     pub limit: u64,
@@ -42,98 +42,101 @@ pub struct Plan {
 
 /// What is asked, and who asks each server.
 #[derive(Drop)]
-pub struct Staff<S, C> {
-    pub plan: Plan,
-    pub crews: Vec<Crew<S, C>>,
+pub struct ProxyWorkers<S, C> {
+    pub config: Config,
+    pub all_workers: Vec<UpstreamWorkers<S, C>>,
 }
 
-/// A crew, and where its questions and orders come from.
+/// The workers of an upstream, and where their questions and orders come from.
 #[derive(Drop)]
 struct Waiting<S, C> {
-    crew: Crew<S, C>,
+    workers: UpstreamWorkers<S, C>,
     asks: Receiver<Ask>,
-    errands: Receiver<Errand>,
+    jobs: Receiver<ChangeJob>,
 }
 
-/// The post of a crew, and the crew there.
-fn post_of<S: Drop, C: Drop>(
+/// An upstream, and its workers.
+fn upstream_of<S: Drop, C: Drop>(
     alloc: Global,
-    crew: Crew<S, C>,
+    workers: UpstreamWorkers<S, C>,
     writes: bool,
-) -> io::Result<(ServerRecord, Waiting<S, C>)> {
+) -> io::Result<(Upstream, Waiting<S, C>)> {
     let (asks, asked) = unbounded(alloc)?;
-    let (errands, given) = unbounded(alloc)?;
-    let post = ServerRecord {
+    let (jobs, given) = unbounded(alloc)?;
+    let upstream = Upstream {
         asks,
-        errands: if writes { Some(errands) } else { None },
+        jobs: if writes { Some(jobs) } else { None },
         standing: Mutex::new(Standing::Fit),
         asked: AtomicU64::new(0),
         failed: AtomicU64::new(0),
     };
     let waiting = Waiting {
-        crew,
+        workers,
         asks: asked,
-        errands: given,
+        jobs: given,
     };
-    Ok((post, waiting))
+    Ok((upstream, waiting))
 }
 
-/// The posts of crews, and the crews there, in their places.
+/// The upstreams, and their workers, in their places.
 fn all_posted<S: Drop, C: Drop>(
     alloc: Global,
-    crews: Vec<Crew<S, C>>,
+    all_workers: Vec<UpstreamWorkers<S, C>>,
     writes: bool,
-) -> io::Result<(Vec<ServerRecord>, Vec<Waiting<S, C>>)> {
-    let mut posts = Vec::new(alloc);
+) -> io::Result<(Vec<Upstream>, Vec<Waiting<S, C>>)> {
+    let mut upstreams = Vec::new(alloc);
     let mut all = Vec::new(alloc);
-    for crew in crews {
-        let (post, waiting) = post_of(alloc, crew, writes)?;
-        posts.push(post)?;
+    for workers in all_workers {
+        let (upstream, waiting) = upstream_of(alloc, workers, writes)?;
+        upstreams.push(upstream)?;
         all.push(waiting)?;
     }
-    Ok((posts, all))
+    Ok((upstreams, all))
 }
 
-/// Starts the threads of a crew.
-fn start_crew<R, S, C>(
+/// Starts the threads of an upstream.
+fn start_upstream_workers<R, S, C>(
     rt: &R,
-    board: &Arc<Board<R>>,
+    shared: &Arc<Shared<R>>,
     place: usize,
     waiting: Waiting<S, C>,
 ) -> io::Result<()>
 where
     R: Wait + Threads + Clock + AllocGlobal + Copy + Send + Sync + Drop + 'static,
     S: Resolver + Send + 'static,
-    C: Clerk + Send + 'static,
+    C: ChangeServers + Send + 'static,
 {
     let Waiting {
-        crew,
+        workers,
         asks,
-        errands,
+        jobs,
     } = waiting;
-    let Crew { askers, clerk } = crew;
+    let UpstreamWorkers {
+        askers,
+        change_servers,
+    } = workers;
     for asker in askers {
-        let theirs = Arc::try_clone(board)?;
+        let theirs = Arc::try_clone(shared)?;
         let asks = asks.clone()?;
         drop(thread::spawn(rt, move || work(&theirs, place, asker, asks))?);
     }
-    if let Some(clerk) = clerk {
-        let theirs = Arc::try_clone(board)?;
-        drop(thread::spawn(rt, move || work_on_orders(&theirs, clerk, errands))?);
+    if let Some(change_servers) = change_servers {
+        let theirs = Arc::try_clone(shared)?;
+        drop(thread::spawn(rt, move || work_on_orders(&theirs, change_servers, jobs))?);
     }
     Ok(())
 }
 
 /// What replies are kept in, if any are.
-fn shelf<R: RandomSource + AllocGlobal>(
+fn cache<R: RandomSource + AllocGlobal>(
     rt: &R,
     keeps: u64,
 ) -> io::Result<Option<Mutex<KeptAnswers>>> {
     if keeps == 0 {
         return Ok(None);
     }
-    let shelf = KeptAnswers::new(rt.alloc(), RandomState::new(rt)?, RandomState::new(rt)?)?;
-    Ok(Some(Mutex::new(shelf)))
+    let cache = KeptAnswers::new(rt.alloc(), RandomState::new(rt)?, RandomState::new(rt)?)?;
+    Ok(Some(Mutex::new(cache)))
 }
 
 fn random<R: RandomSource>(rt: &R) -> io::Result<u64> {
@@ -154,46 +157,50 @@ fn token_key<R: RandomSource>(rt: &R) -> io::Result<TokenKey> {
 /// The board with these posts; lines of visits go to `visits`, those about servers to `notices`.
 fn board_of<R>(
     rt: &R,
-    plan: Plan,
-    posts: Vec<ServerRecord>,
-    visits: Option<Sender<Visit>>,
+    config: Config,
+    upstreams: Vec<Upstream>,
+    entries: Option<Sender<AccessLogEntry>>,
     notices: Sender<Notice>,
-) -> io::Result<Arc<Board<R>>>
+) -> io::Result<Arc<Shared<R>>>
 where
     R: Clock + RandomSource + AllocGlobal + Copy + Drop,
 {
     let alloc = rt.alloc();
-    let board = Board {
+    let shared = Shared {
         rt: *rt,
         alloc,
-        routes: plan.routes,
-        posts,
-        holders: Mutex::new(Holders::new(alloc, RandomState::new(rt)?)?),
+        routes: config.routes,
+        upstreams,
+        owners: Mutex::new(PrefixOwners::new(alloc, RandomState::new(rt)?)?),
         began: Instant::now(rt)?,
-        limit: plan.limit,
-        writes: plan.writes,
+        limit: config.limit,
+        writes: config.writes,
         tokens: token_key(rt)?,
-        shelf: shelf(rt, plan.keeps)?,
-        keeps: plan.keeps,
+        cache: cache(rt, config.keeps)?,
+        keeps: config.keeps,
         counts: Counts::new(alloc),
         standbys: Standbys::new(notices),
         drawn: AtomicU64::new(random(rt)?),
-        site: Arc::new(alloc, plan.site)?,
-        visits,
+        site: Arc::new(alloc, config.site)?,
+        entries,
     };
-    let board = Arc::new(alloc, board)?;
-    Ok(board)
+    let shared = Arc::new(alloc, shared)?;
+    Ok(shared)
 }
 
-/// Starts the threads of all crews.
-fn start_crews<R, S, C>(rt: &R, board: &Arc<Board<R>>, crews: Vec<Waiting<S, C>>) -> io::Result<()>
+/// Starts the threads of all upstreams.
+fn start_all_workers<R, S, C>(
+    rt: &R,
+    shared: &Arc<Shared<R>>,
+    all_workers: Vec<Waiting<S, C>>,
+) -> io::Result<()>
 where
     R: Wait + Threads + Clock + AllocGlobal + Copy + Send + Sync + Drop + 'static,
     S: Resolver + Send + 'static,
-    C: Clerk + Send + 'static,
+    C: ChangeServers + Send + 'static,
 {
-    for (place, waiting) in crews.into_iter().enumerate() {
-        start_crew(rt, board, place, waiting)?;
+    for (place, waiting) in all_workers.into_iter().enumerate() {
+        start_upstream_workers(rt, shared, place, waiting)?;
     }
     Ok(())
 }
@@ -201,18 +208,21 @@ where
 /// Starts a thread for each who asks, and gives where questions and orders go; lines of visits go to `visits`, those about servers to `notices`.
 pub(crate) fn start_asking<R, S, C>(
     rt: &R,
-    staff: Staff<S, C>,
-    visits: Option<Sender<Visit>>,
+    workers_of_all: ProxyWorkers<S, C>,
+    entries: Option<Sender<AccessLogEntry>>,
     notices: Sender<Notice>,
-) -> io::Result<Arc<Board<R>>>
+) -> io::Result<Arc<Shared<R>>>
 where
     R: Wait + Threads + Clock + RandomSource + AllocGlobal + Copy + Send + Sync + Drop + 'static,
     S: Resolver + Send + 'static,
-    C: Clerk + Send + 'static,
+    C: ChangeServers + Send + 'static,
 {
-    let Staff { plan, crews } = staff;
-    let (posts, crews) = all_posted(rt.alloc(), crews, plan.writes)?;
-    let board = board_of(rt, plan, posts, visits, notices)?;
-    start_crews(rt, &board, crews)?;
-    Ok(board)
+    let ProxyWorkers {
+        config,
+        all_workers,
+    } = workers_of_all;
+    let (upstreams, all_workers) = all_posted(rt.alloc(), all_workers, config.writes)?;
+    let shared = board_of(rt, config, upstreams, entries, notices)?;
+    start_all_workers(rt, &shared, all_workers)?;
+    Ok(shared)
 }
