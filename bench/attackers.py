@@ -1,15 +1,11 @@
 """Who attacks a publisher of `handled serve` in bench/soak. Each function is one attacker's turn; what it met is counted, and another reply than it should be is noted."""
 
 import contextlib
-import os
 import socket
 import struct
-import sys
 import time
 
-sys.path.insert(0, os.path.join(os.path.dirname(os.path.abspath(__file__)), "..", "tools"))
-import servers
-import wire
+from lib import servers, wire
 
 # How many references the lists hold to which an administrator leads, and how many of them fit into one.
 REFERENCES, A_LIST = 20_000, 1_500

@@ -14,9 +14,7 @@ import sys
 import time
 
 HERE = os.path.dirname(os.path.abspath(__file__))
-sys.path.insert(0, os.path.join(HERE, "..", "tools"))
-import servers
-import wire
+from lib import servers, wire
 
 PROGRAM = servers.HANDLED
 TICKS = os.sysconf("SC_CLK_TCK")
@@ -45,7 +43,7 @@ def reply(number):
 
 def tenants(lanes, port, values):
     lines = ["publisher acme %d %d" % (lanes, port), "prefix 10 acme"]
-    return wire.text(lines + [wire.value_line(handle(k), value(k)) for k in range(values)])
+    return wire.tenants(lines, ((handle(k), value(k)) for k in range(values)))
 
 
 def needs_program(name, program=PROGRAM):
