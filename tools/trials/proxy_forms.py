@@ -151,7 +151,7 @@ def changed(one):
     one.confirm(key="300")
     yield "no key", (one.status, one.page.faults) == (400, {"key-fault": "A key is a number, a colon and a handle, such as 300:0.NA/10."})
     one.confirm(key="301:0.NA/10", secret="other")
-    yield "another key", (one.status, one.page.faults) == (403, {"key-fault": "The key is no administrator of this handle."})
+    yield "another key", (one.status, one.page.faults) == (403, {"key-fault": "The key is no administrator of this handle, or, for a new one, of the prefix's 0.NA/PREFIX."})
     one.confirm(key="0.NA/10:300")
     yield "changed", one.status == 200 and "The value is changed" in one.page.words
     wanted = dict(before)

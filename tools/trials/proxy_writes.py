@@ -113,7 +113,8 @@ def shown(answer):
 NO_KEY = "A key is needed: send the field Authorization with Basic and INDEX:HANDLE as the user."
 ABSENT = "This handle isn't there."
 THERE = "This handle is there already."
-NO_ADMIN = "The key is no administrator of this handle."
+NO_JSON = "the body isn't JSON, or it is nested too deep: `python3 -m json.tool` finds the place"
+NO_ADMIN = "The key is no administrator of this handle, or, for a new one, of the prefix's 0.NA/PREFIX."
 LACKS = "The key lacks a permission for this."
 WRONG = "The secret isn't that of the key."
 NO_VALUES = "The server refuses the values: a record has an HS_ADMIN value, and at most 1024 values."
@@ -172,9 +173,9 @@ LEFT = [(2, "EMAIL", text("b@example.org"), 86400, None), (4, "LIST", {"format":
 
 # Bodies that are refused before anything is sent, and why.
 BODIES = (
-    ("{", "the body isn't JSON, or it is nested too deep"),
-    ("[" * 200, "the body isn't JSON, or it is nested too deep"),
-    (b'"\xff"', "the body isn't JSON, or it is nested too deep"),
+    ("{", NO_JSON),
+    ("[" * 200, NO_JSON),
+    (b'"\xff"', NO_JSON),
     ("7", "the body is neither a value, nor a list of values, nor an object with such a list as its values"),
     ({"values": 7}, "the body is neither a value, nor a list of values, nor an object with such a list as its values"),
     ({"values": []}, "the body has no value"),
@@ -259,7 +260,7 @@ def minted(port):
     yield "a suffix is drawn", [(status, told.get("responseCode")) for status, told in found] == [(201, 1)] * 3 and all(map(MINTED.fullmatch, names)) and len(set(names)) == 3
     yield "the handles are there", [[value[0] for value in shown(ask(port, "GET", at(name)))[1]] for name in names] == [[1, 100]] * 3
     yield "the name itself isn't", ask(port, "GET", at("10/mint-"))[::2] == (404, refused("10/mint-", ABSENT, 100))
-    yield "a body that is none", ask(port, "PUT", path, "{")[::2] == (400, refused("10/mint-", RECORD % "the body isn't JSON, or it is nested too deep", 202))
+    yield "a body that is none", ask(port, "PUT", path, "{")[::2] == (400, refused("10/mint-", RECORD % NO_JSON, 202))
     yield "no key", ask(port, "PUT", path, record, None)[::2] == (401, refused("10/mint-", NO_KEY, 402))
     long = "10/" + "x" * 2040
     yield "a name that gets too long", ask(port, "PUT", at(long + "?mintNewSuffix=true"), record)[::2] == (400, refused(long, "This is no handle: the name is too long.", 102))

@@ -8,16 +8,21 @@ use hdl_limits::Octets;
 use hdl_rows::Rows;
 use std::alloc::Global;
 
+/// How many of the handles that are left out are named.
+const NAMED_MAX: usize = 10;
+
 /// How many handles of a table aren't in the text that [`export`](crate::export) writes, though it hosts their prefixes.
-#[derive(Clone, Copy, PartialEq, Eq)]
+#[derive(Drop)]
 pub struct LeftOut {
     /// How many handles have no value.
     pub empty: u64,
     /// Those with a value, whose name has a space or a line feed.
     pub unsayable: u64,
+    /// The first of all these, ten at most.
+    pub named: Vec<Octets>,
 }
 
-/// Counts a handle, if it is left out.
+/// Counts a handle, if it is left out, and keeps its name, if it is one of the first.
 fn count_handle<R: Rows>(
     alloc: Global,
     rows: &mut R,
@@ -33,8 +38,17 @@ fn count_handle<R: Rows>(
         left.empty = left.empty.saturating_add(1);
     } else if !is_sayable(handle) {
         left.unsayable = left.unsayable.saturating_add(1);
+    } else {
+        return Ok(());
     }
-    Ok(())
+    if left.named.len() == NAMED_MAX {
+        return Ok(());
+    }
+    let named = Octets::new(Vec::from_slice(alloc, handle)?);
+    match left.named.push(named) {
+        Ok(()) => Ok(()),
+        Err(_) => Err(ExportFault::Memory),
+    }
 }
 
 fn count_handles<R: Rows>(
@@ -60,6 +74,7 @@ fn left_under<R: Rows>(
     let mut left = LeftOut {
         empty: 0,
         unsayable: 0,
+        named: Vec::new(alloc),
     };
     for authority in &authorities {
         let handles = rows.names(authority.as_bytes())?;

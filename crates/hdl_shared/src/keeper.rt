@@ -129,7 +129,7 @@ impl<R: Net<Stream = TcpStream> + Clock + Eprint + Drop> Keeper<R> {
         }
         if let Ok(asked) = endpoints(self.alloc, self.list.addresses()) {
             let _ = eprintln!(self.rt;
-                "cluster: no member answers at {asked}: check --cluster; `etcdctl --endpoints {asked} endpoint status --cluster` says how members are"
+                "cluster: no member answers at {asked}: check --cluster, and of a socket that this program's user may enter its folder; `etcdctl --endpoints {asked} endpoint status --cluster` says how members are"
             );
         }
     }

@@ -34,15 +34,20 @@ pub fn status_of(fault: &ExportFault) -> u8 {
     }
 }
 
-/// Says on standard error how many handles the text doesn't say; answers the exit status.
-fn say_left_out(rt: &HostRuntime, left: LeftOut) -> u8 {
+/// Says on standard error how many handles the text doesn't say, and which are the first; answers the exit status.
+fn say_left_out(rt: &HostRuntime, left: &LeftOut) -> u8 {
     if left.empty == 0 && left.unsayable == 0 {
         return 0;
     }
     let (empty, unsayable) = (left.empty, left.unsayable);
     let _ = eprintln!(rt;
-        "export: left out, since a tenants text can't express them: {empty} handles without a value, {unsayable} with a space or line feed in the name"
+        "export: left out, since a tenants text can't express them: {empty} handles without a value, {unsayable} with a space or line feed in the name, the first of them:"
     );
+    for handle in &left.named {
+        if let Ok(name) = str::from_utf8(handle.as_slice()) {
+            let _ = eprintln!(rt; "export: {name:?}");
+        }
+    }
     INCOMPLETE
 }
 
@@ -257,7 +262,7 @@ impl ExportText<'_> {
             prefixes,
         } = self.exported(rt, rows)?;
         say_left_prefixes(rt, prefixes.as_slice());
-        let status = say_left_out(rt, left);
+        let status = say_left_out(rt, &left);
         say_length(rt, &text);
         put_text(rt, &text, self.to)?;
         Ok(status)

@@ -60,7 +60,8 @@ pub(crate) fn change_words(code: u32) -> &'static str
             "The server refuses the values: a record has an HS_ADMIN value, and at most 1024 values.",
         Some(ResponseCode::ServiceReferral) =>
             "None of the servers that were asked hosts this prefix.",
-        Some(ResponseCode::NotAuthorized) => "The key is no administrator of this handle.",
+        Some(ResponseCode::NotAuthorized) =>
+            "The key is no administrator of this handle, or, for a new one, of the prefix's 0.NA/PREFIX.",
         Some(ResponseCode::AccessDenied) => "The key lacks a permission for this.",
         Some(ResponseCode::AuthenticationFailed) => "The secret isn't that of the key.",
         Some(ResponseCode::UnableToAuthenticate) => "There is no such key.",

@@ -43,7 +43,7 @@ pub enum EntryFault {
 /// What is wrong with a record. Values are counted from 1.
 #[derive(Clone, Copy, Debug, PartialEq, Eq, Error)]
 pub enum RecordFault {
-    #[error("the body isn't JSON, or it is nested too deep")]
+    #[error("the body isn't JSON, or it is nested too deep: `python3 -m json.tool` finds the place")]
     Json,
     #[error("the body is neither a value, nor a list of values, nor an object with such a list as its values")]
     Shape,
