@@ -270,7 +270,8 @@ def left_out(folder, file, sayable):
             yield "a handle loses its values", client.remove(b"10/empty", (1, 100)) == wire.SUCCESS
     done = export(text(both, ports, OPENING), "--table", file)
     same = [line for line in done.stdout.splitlines() if line.startswith(b"value ")] == [line for line in sayable.splitlines() if line.startswith(b"value ")]
-    said = b"export: left out, since a tenants text can't express them: 1 handles without a value, 2 with a space or line feed in the name\n"
+    said = b"export: left out, since a tenants text can't express them: 1 handles without a value, 2 with a space or line feed in the name, the first of them:\n"
+    said += b'export: "10/empty"\nexport: "10/with\\na line"\nexport: "10/with a space"\n'
     yield "what is left out is told", (done.returncode, same, done.stderr) == (5, True, said)
 
 
@@ -333,7 +334,7 @@ def written(folder):
         yield "a table that is served", export(given, "--table", file).returncode == 4
         yield "a copy while the server runs", handled("copy", b"", "--table", file, "--to", copied).returncode == 0
         printed = export(given, "--table", copied)
-        said = b"export: left out, since a tenants text can't express them: 0 handles without a value, 1 with a space or line feed in the name\n"
+        said = b"export: left out, since a tenants text can't express them: 0 handles without a value, 1 with a space or line feed in the name, the first of them:\nexport: \"10/with a space\"\n"
         yield "what is left out is said", (printed.returncode, printed.stderr) == (5, said) and printed.stdout.startswith(b"#")
         done = handled("export", given, "--table", copied, "--to", to, preexec_fn=lambda: os.umask(0))
         with open(to, "rb") as octets:
