@@ -296,6 +296,7 @@ def listed(port):
     yield "a list of no prefix", ask(port, "GET", "/api/handles")[0] == 400
     yield "a list that is too long", ask(port, "GET", "/api/handles?prefix=30&page=0&pageSize=10")[::2] == (502, refused("0.NA/30", LONG_LIST, 2))
     yield "a page that is no number", ask(port, "GET", "/api/handles?prefix=10&page=x")[0] == 400
+    yield "a list of no prefix", ask(port, "GET", "/api/handles")[::2] == (400, refused("0.NA/", "Name the prefix to list, as in /api/handles?prefix=10.", 102))
 
 
 def lists(cases):

@@ -235,6 +235,9 @@ fn number_of(alloc: Global, pairs: &[Pair], name: &str) -> Result<Option<u32>, A
 }
 
 fn listing(alloc: Global, pairs: &[Pair]) -> Result<Act, AddressFault> {
+    if last_named(alloc, pairs, "prefix")?.is_none() {
+        return Err(address_fault("Name the prefix to list, as in /api/handles?prefix=10."));
+    }
     let page = number_of(alloc, pairs, "page")?.unwrap_or(0);
     let window = match number_of(alloc, pairs, "pageSize")? {
         Some(size) => Some(Window { page, size }),
