@@ -50,7 +50,7 @@ INPUT_LIMIT = re.compile(r"^pub const (INPUT_LIMIT): usize = ([\d_]+);$", re.MUL
 PROMISES = ("docs/PROMISES.md", "docs/CLIENT_PROMISES.md")
 NUMERALS = {"two": "2", "eight": "8", "ten": "10"}
 OPTIONS, LISTENING, LIMITS = "crates/hdl_server_options/src/commands.rt", "crates/hdl_listeners/src/listening.rt", "crates/hdl_limits/src/lib.rt"
-PROXY, GATHERING, ASKING, REASONS = "crates/hdl_web/src/words.rt", "crates/hdl_web/src/change_requests.rt", "crates/hdl_commands/src/asking.rt", "crates/hdl_check/src/reasons.rt"
+PROXY, GATHERING, ADVICE, REASONS = "crates/hdl_web/src/words.rt", "crates/hdl_web/src/change_requests.rt", "crates/hdl_commands/src/advice.rt", "crates/hdl_check/src/reasons.rt"
 # Where a default or a limit stands in a text that a program prints, and the constant that it is.
 PRINTED = (
     (OPTIONS, r"client waits; (\d+) by default", LISTENING, "idle"),
@@ -66,7 +66,7 @@ PRINTED = (
     (PROXY, r"every page; (\S+) by default", PROXY, "SITE"),
     (GATHERING, r"larger than (\d+) octets", GATHERING, "BODY_MOST"),
     (GATHERING, r"within (\d+) seconds", GATHERING, "BODY_SECONDS"),
-    (ASKING, r"one reply \(([\d,]+) octets\)", LIMITS, "MESSAGE_MAX"),
+    (ADVICE, r"one reply \(([\d,]+) octets\)", LIMITS, "MESSAGE_MAX"),
     (REASONS, r"the handle has ([\d,]+) values", LIMITS, "VALUES_MAX"),
     (REASONS, r"a publisher's name is 1 to (\d+)", LIMITS, "PUBLISHER_NAME_MAX"),
     (REASONS, r"LANES is a number from 2 to (\d+)", LIMITS, "LANES"),

@@ -209,6 +209,19 @@ REFUSALS = (
     (CREATE, wire.CREATE, 202, "hdl: 202 value invalid: a new handle needs an HS_ADMIN value, such as '100 HS_ADMIN 86400 1110 ADMIN 300:111111111111:0.NA/10'\n"),
 )
 
+# Of a request of a batch: its text, the operation, the code, and what is said behind it.
+BATCH_LINES = (
+    ("MODIFY 10/none\n%s\n" % VALUE, wire.MODIFY, 100, "handle not found: check its name; a new handle is made by `hdl create`"),
+    ("CREATE 20.5/a\n%s\n" % VALUE, wire.CREATE, 101, "handle already exists: change it by `hdl modify` or `hdl add`"),
+    ("CREATE 20.5/a\n%s\n" % VALUE, wire.CREATE, 202, "value invalid: a new handle needs an HS_ADMIN value, such as '100 HS_ADMIN 86400 1110 ADMIN 300:111111111111:0.NA/20.5'"),
+    ("MODIFY 0.NA/10\n%s\n" % VALUE, wire.MODIFY, 400, (RIGHTS % ("0.NA/10", "0.NA/10"))[len("hdl: 400 "):-1].replace("--key", "AUTHENTICATE")),
+    ("CREATE 20/a\n%s\n" % VALUE, wire.CREATE, 400, (RIGHTS % ("0.NA/20", "0.NA/20"))[len("hdl: 400 "):-1].replace("--key", "AUTHENTICATE")),
+    ("REMOVE 1:10/a\n", wire.REMOVE, 403, "authentication failed: the secret isn't that of the key: check the line after AUTHENTICATE"),
+    ("DELETE 10/a\n", wire.DELETE, 406, "unable to authenticate: the handle of AUTHENTICATE has no such key: check its index and its handle"),
+    ("DELETE 10/a b\n", wire.DELETE, wire.SUCCESS, "success"),
+    ("CREATE 10/a b\n%s\n" % VALUE, wire.CREATE, wire.SUCCESS, "success: a tenants text can't express the space or line feed in the name: `handled export` will leave the handle out"),
+)
+
 # A batch that writes a key, and one whose handle would drive a terminal.
 KEY_BATCH = "CREATE 10/k\n%s\n" % KEY_LINE
 KEY_ASKED = wire.frame(wire.message(wire.CREATE, wire.string(b"10/k") + wire.listed([KEY])), 0, 1)
@@ -241,6 +254,10 @@ KEY_REFUSED = "hdl: value %d: an HS_SECKEY value is refused on the command line,
 
 # Behind what is wrong with a value on the command line.
 FORM = ": write INDEX TYPE TTL PERMISSIONS FORMAT DATA, such as '1 URL 86400 1110 UTF8 https://example.org/'"
+# The same of an administrator, and what is wrong with a tab.
+ADMIN_FORM = FORM.replace("1 URL 86400 1110 UTF8 https://example.org/", "100 HS_ADMIN 86400 1110 ADMIN 300:111111111111:0.NA/10")
+TAB = "a tab: fields are separated by one space"
+NO_ADMIN = "the value's data is no administrator: the format is ADMIN"
 
 # Of a server that can't be reached: its words, and what is said behind them. A broadcast address has no way for a connection.
 NOBODY = "nothing listens there: is a server running? Name another one by --server HOST:PORT, ask `systemctl status handled`, or start an example by `handled serve < examples/serve.tenants`"
@@ -260,6 +277,10 @@ WORDS = (
     (["create", "10/a", "1 URL 86400 111 UTF8 a"], "", "hdl: '1 URL 86400 111 UTF8 a': the permissions aren't four digits 0 or 1" + FORM),
     (["create", "10/a", "0 URL 86400 1110 UTF8 a"], "", "hdl: '0 URL 86400 1110 UTF8 a': the value's index is 0" + FORM),
     (["add", "10/a", "1 URL 86400 1110 UTF8 a", "URL\x1b[2J"], "", "hdl: 'URL\\u{1b}[2J': the index isn't a number" + FORM),
+    (["create", "10/a", "5 HS_ADMIN 86400 1110 ADMIN 300:rwx:0.NA/10"], "",
+     "hdl: '5 HS_ADMIN 86400 1110 ADMIN 300:rwx:0.NA/10': the data isn't INDEX:MASK:HANDLE, the mask of twelve digits 0 or 1" + ADMIN_FORM),
+    (["modify", "10/a", "6 HS_ADMIN 86400 1110 UTF8 300"], "", "hdl: '6 HS_ADMIN 86400 1110 UTF8 300': %s%s" % (NO_ADMIN, ADMIN_FORM)),
+    (["create", "10/a", "1\tURL 86400 1110 UTF8 a"], "", "hdl: '1\\u{9}URL 86400 1110 UTF8 a': " + TAB),
     (["create", "10/k", KEY_LINE], "", KEY_REFUSED % 1),
     (["add", "10/k", "1 URL 86400 1110 UTF8 a", KEY_LINE], "", KEY_REFUSED % 2),
     (["modify", "10/k", "OCTETS " + KEY.hex()], "", KEY_REFUSED % 1),
@@ -269,6 +290,9 @@ WORDS = (
     (["delete", "10/c", "--key", "10/c"], "", "hdl: a key isn't INDEX:HANDLE, such as 300:0.NA/10"),
     (["batch"], "CREATE\n", "hdl: line 1: unknown operation: write RESOLVE, CREATE, ADD, MODIFY, REMOVE, DELETE, LIST or AUTHENTICATE"),
     (["batch"], "MOVE 10/a\n", "hdl: line 1: unknown operation: write RESOLVE, CREATE, ADD, MODIFY, REMOVE, DELETE, LIST or AUTHENTICATE"),
+    (["batch"], "DELETE\t10/a\n", "hdl: line 1: " + TAB),
+    (["batch"], "ADD 10/a\n1\tURL\t86400\t1110\tUTF8\ta\n", "hdl: line 2: " + TAB),
+    (["batch"], "ADD 10/a\n6 HS_ADMIN 86400 1110 UTF8 300\n", "hdl: line 2: " + NO_ADMIN),
     (["batch"], "DELETE 10\n", "hdl: line 1: the name has no slash"),
     (["batch"], "DELETE 10/a\n1 URL 86400 1110 UTF8 a\n", "hdl: line 2: no CREATE, ADD or MODIFY stands before this value"),
     (["batch"], ";; no value\nADD 10/a\n\n", "hdl: line 2: the operation needs values or indexes"),
@@ -578,8 +602,14 @@ def exchanges():
         said = "write the handle alone, such as 10/a" if b"hdl" in prefix else "this port doesn't serve the prefix: name its publisher's port by --server"
         yield "another port's handle", (done.returncode, done.stderr) == (1, "hdl: 302 service referral: %s\n" % said)
     done = asked(lambda listener: served(listener, [OWN], []), ["batch"], "DELETE 10/c\n")
-    said = "hdl: code 402 asks for a key: write AUTHENTICATE SECKEY:INDEX:HANDLE, such as SECKEY:300:0.NA/10, before the operations, and its secret on the next line\n"
-    yield "a batch without a key", (done.returncode, done.stderr) == (1, said)
+    said = "line 1: DELETE 10/c: 402 authentication needed: write AUTHENTICATE SECKEY:INDEX:HANDLE, such as SECKEY:300:0.NA/10, before the operation, and its secret on the next line\n"
+    yield "a batch without a key", (done.returncode, done.stdout, done.stderr) == (1, said + "0 succeeded, 1 failed\nfailed: line 1\n", "")
+    for text, operation, code, said in BATCH_LINES:
+        sent = wire.frame(reply(operation, code, b"" if code == wire.SUCCESS else wire.number(0)), 0, 1)
+        done = asked(lambda listener: served(listener, [sent], []), ["batch"], text)
+        yield "a line of a batch: " + said, done.stdout.splitlines()[0] == "line 1: %s: %d %s" % (text.splitlines()[0], code, said)
+    done = asked(lambda listener: served(listener, [wire.frame(wire.short_reply(3), 0, 1)], []), CREATE)
+    yield "a reply without an operation", done.stdout == ";; reply to create 1, session 0: 3 server busy\n"
     done = asked(lambda listener: served(listener, [absent(1)], []), ["batch"], CONTROL_BATCH)
     yield "control characters in a batch", done.returncode == 1 and done.stdout.splitlines() == CONTROL_SAID
     came = []

@@ -24,7 +24,7 @@ PROGRAM = os.environ.get("HDL", repository.program("hdl"))
 SECRET = "never-shown"
 KEY = "300:0.NA/10"
 OPEN, KEPT = 0x0E, 0x0C
-# How many handles the large file has: several parts of a thousand, and a line of progress.
+# How many handles the large file has: several parts of a thousand.
 MANY = 11_000
 
 
@@ -231,6 +231,7 @@ def unsent(port):
 
 
 REFUSED = "hdl: the server refuses the key: check --key and its secret; later rows were not tried\n"
+RIGHTS = "400 not authorized: the key of --key is no administrator of 0.NA/10 who may do this: `hdl resolve 0.NA/10 --type HS_ADMIN` names them; if none is there, see docs/FILE.md, \"If a key is lost\""
 
 
 def keys(port):
@@ -238,7 +239,7 @@ def keys(port):
     lines = ["handle,type,data,ttl"] + ["10/key%d,URL,a,1" % number for number in range(1500)]
     for name, words, code in (
         ("a wrong secret", {"secret": "wrong"}, "403 authentication failed: the secret isn't that of the key: check HDL_SECRET"),
-        ("no such key", {"key": "7:0.NA/10"}, "400 not authorized: the key of --key is no administrator of 0.NA/PREFIX who may do this"),
+        ("no such key", {"key": "7:0.NA/10"}, RIGHTS),
     ):
         status, out, err = run(port, "\n".join(lines).encode(), **words)
         told = out.splitlines()
@@ -278,7 +279,7 @@ def standby():
 
 def spaces(port):
     """A name with a space is imported, and it is said that no text says it."""
-    said = "line 2: 10/two words: a tenants text can't express the space in the name: `handled export` will leave the handle out\n"
+    said = "line 2: 10/two words: a tenants text can't express the space or line feed in the name: `handled export` will leave the handle out\n"
     rows = b"handle,type,data,ttl\n10/two words,URL,a,1\n"
     yield "a dry run of a space", run(port, rows, more=["--dry-run"]) == (0, said + "1 could be created, 0 failed; nothing was sent\n", "")
     yield "a space", run(port, rows) == (0, said + "1 created, 0 there already, 0 failed\n", "")
@@ -312,7 +313,7 @@ def killed(port):
     status, out, err = run(port, large_file())
     found = re.fullmatch(r"(\d+) created, (\d+) there already, 0 failed\n", out)
     yield "an import that was killed", bool(found) and status == 0 and int(found[1]) + int(found[2]) == MANY and int(found[1]) > 0 and int(found[2]) > 0
-    yield "progress", bool(re.fullmatch(r"1\d{4} of %d lines\n" % (MANY + 1), err))
+    yield "no more than progress beside it", bool(re.fullmatch(r"(hdl: \d+ of %d rows\n)*" % MANY, err))
     listed = subprocess.run([PROGRAM, "list", "10", "--key", KEY, "--server", "127.0.0.1:%d" % port], capture_output=True, check=False, text=True, env={**os.environ, "HDL_SECRET": SECRET})
     yield "more handles than a list says", (listed.returncode, listed.stdout, listed.stderr) == (1, ";; reply to list 2, session 1: 2 error\n", LONG_LIST)
     looked = range(0, MANY, 97)
@@ -508,6 +509,24 @@ def busy():
     yield "a server that stays busy", (status, got, err) == (1, [wire.CREATE] * 10, said) and out.endswith("\n0 created, 0 there already, 10 failed\n")
 
 
+def slow():
+    """A server that takes five seconds for some of six handles: after ten seconds it is said how many rows are done."""
+    with socket.create_server(("127.0.0.1", 0)) as listener:
+        def serve():
+            with listener.accept()[0] as stream, stream.makefile("rb") as octets:
+                for pause in (0, 0, 5.2, 5.2, 0, 0):
+                    envelope = octets.read(20)
+                    operation = int.from_bytes(octets.read(int.from_bytes(envelope[16:20], "big"))[:4], "big")
+                    time.sleep(pause)
+                    stream.sendall(wire.frame(wire.message(operation, b"", wire.SUCCESS), request=int.from_bytes(envelope[8:12], "big")))
+        thread = threading.Thread(target=serve, daemon=True)
+        thread.start()
+        rows = b"handle,type,data,ttl\n" + b"".join(b"10/slow%d,URL,a,1\n10/slow%d,URL,b,1\n" % (number, number) for number in range(6))
+        done = run(listener.getsockname()[1], rows)
+        thread.join(10)
+    yield "a slow server", done == (0, "6 created, 0 there already, 0 failed\n", "hdl: 7 of 12 rows\n")
+
+
 def closed():
     """A server that closes on the way."""
     with socket.create_server(("127.0.0.1", 0)) as listener:
@@ -528,7 +547,7 @@ def main():
         (nobody,) = servers.free_ports(1)
         # an unproved program takes minutes for so many handles
         large = [] if servers.IS_UNPROVED else killed(port)
-        return servers.tally(itertools.chain(whole(port), again(port), faults(port), updates(port), refusals(port), replaces(port), exports(port), questions(), unsent(nobody), keys(port), spaces(port), standby(), large, busy(), closed()))
+        return servers.tally(itertools.chain(whole(port), again(port), faults(port), updates(port), refusals(port), replaces(port), exports(port), questions(), unsent(nobody), keys(port), spaces(port), standby(), large, slow(), busy(), closed()))
 
 
 if __name__ == "__main__":

@@ -1,8 +1,9 @@
 //! One request, asked of a server.
 
+use crate::advice::{Asked, KeyWords, UNSAYABLE, advice, is_unsayable};
 use crate::fault::WordFault;
 use crate::key::key_of;
-use crate::request::{Details, request_of, takes_values};
+use crate::request::{Details, is_administrator, request_of, takes_values};
 use crate::telling::{may_be_done, tell_fault};
 use crate::words::{Printout, code_name, push_reply, push_short_reply};
 use hdl_client::{ClientFault, Key, Reply, connect};
@@ -128,193 +129,16 @@ fn print_reply(
     if question.is_short {
         push_short_reply(&mut printout, reply)?;
     } else {
-        push_reply(&mut printout, envelope, reply)?;
+        push_reply(&mut printout, envelope, reply, Some(question.operation))?;
     }
     print!(rt; "{}", printout.as_str())?;
     Ok(())
 }
 
-/// What to do if one reply can't say all that was asked for.
-fn way_to_the_rest(operation: OpCode) -> &'static str {
-    match operation {
-        OpCode::ListHandles => {
-            ": more handles than fit into one reply (65,536 octets). The server's operator can list all: `handled copy --table FILE --to COPY`, then `handled export --table COPY < TENANTS`"
-        }
-        OpCode::Resolution => {
-            ": more values than fit into one reply (65,536 octets): select some with --index or --type"
-        }
-        _ => "",
-    }
-}
-
-/// What values lack that are refused.
-fn way_to_values(operation: OpCode) -> &'static str {
-    match operation {
-        OpCode::CreateHandle => {
-            ": a new handle needs an HS_ADMIN value, such as '100 HS_ADMIN 86400 1110 ADMIN 300:111111111111:0.NA/10'"
-        }
-        _ => "",
-    }
-}
-
-/// Of which handle the key's holder has to be an administrator: for a new handle and for a list of the prefix's own.
-fn way_to_rights(operation: OpCode) -> &'static str {
-    match operation {
-        OpCode::CreateHandle | OpCode::ListHandles => {
-            ": the key of --key is no administrator of 0.NA/PREFIX who may do this"
-        }
-        _ => ": the key of --key is no administrator of the handle who may do this",
-    }
-}
-
-/// What to do if a handle has no such value.
-fn way_to_value(operation: OpCode) -> &'static str {
-    match operation {
-        OpCode::ModifyValue => {
-            ": resolve the handle; a value with a new index is added by `hdl add`"
-        }
-        OpCode::Resolution => {
-            ": the handle is there; leave out --type and --index to see all (URL isn't Url)"
-        }
-        _ => "",
-    }
-}
-
-/// What to do if a server can't read a request whose values have a layout.
-fn way_to_a_layout(operation: OpCode) -> &'static str {
-    if takes_values(operation) {
-        ": the port may have the other layout of values: add --handle-net if its line ends with handle-net, or else leave it out"
-    } else {
-        ""
-    }
-}
-
-/// What to do about a change that is denied: a server denies all that it takes, or what would make or end a handle under 0.NA.
-fn way_to_change(operation: OpCode) -> &'static str {
-    match operation {
-        OpCode::CreateHandle | OpCode::DeleteHandle => {
-            ": a server with --read-only takes no changes: name the one that does by --server. No server creates or deletes a handle under 0.NA"
-        }
-        OpCode::AddValue | OpCode::RemoveValue | OpCode::ModifyValue => {
-            ": this server takes no changes (--read-only): name the one that does by --server"
-        }
-        _ => "",
-    }
-}
-
-/// What to write where the service takes a name for none.
-fn way_to_a_name(operation: OpCode) -> &'static str {
-    match operation {
-        OpCode::ListHandles => ": write the prefix alone, such as 10",
-        _ => ": write PREFIX/NAME, such as 10/a",
-    }
-}
-
-/// Whether the words are the address of a handle, and not the handle.
-fn is_address(words: &str) -> bool {
-    words.starts_with("hdl:")
-        || words.starts_with("doi:")
-        || words.starts_with("http:")
-        || words.starts_with("https:")
-}
-
-/// What to do about a reply with this code.
-pub(crate) fn way_on(operation: OpCode, code: Option<ResponseCode>) -> &'static str {
-    match code {
-        Some(ResponseCode::Error) => way_to_the_rest(operation),
-        Some(ResponseCode::ServerBusy) => {
-            ": nothing was done: try again; if it stays so, the server's /health says why"
-        }
-        Some(ResponseCode::ProtocolError) => way_to_a_layout(operation),
-        Some(ResponseCode::OperationDenied) => way_to_change(operation),
-        Some(ResponseCode::ValueInvalid) => way_to_values(operation),
-        Some(ResponseCode::InvalidHandle) => way_to_a_name(operation),
-        Some(ResponseCode::HandleAlreadyExists) if operation == OpCode::CreateHandle => {
-            ": change it by `hdl modify` or `hdl add`"
-        }
-        Some(ResponseCode::ValueNotFound) => way_to_value(operation),
-        Some(ResponseCode::ValueAlreadyExists) if operation == OpCode::AddValue => {
-            ": a value with an index that exists is changed by `hdl modify`"
-        }
-        Some(ResponseCode::ServiceReferral) => {
-            ": this port doesn't serve the prefix: name its publisher's port by --server"
-        }
-        Some(ResponseCode::NotAuthorized) => way_to_rights(operation),
-        Some(ResponseCode::AuthenticationNeeded) => {
-            ": give --key INDEX:HANDLE, and its secret in HDL_SECRET"
-        }
-        Some(ResponseCode::AuthenticationFailed) => {
-            ": the secret isn't that of the key: check HDL_SECRET"
-        }
-        Some(ResponseCode::UnableToAuthenticate) => {
-            ": the handle of --key has no such key: check its index and its handle"
-        }
-        _ => "",
-    }
-}
-
-/// The prefix of the handle that is asked for.
-fn prefix_of(question: &Inquiry) -> &str {
-    match question.handle.split_once('/') {
-        Some((prefix, _)) => prefix,
-        None => question.handle.as_str(),
-    }
-}
-
-/// The handle whose administrators may do what is asked, as it is shown.
-fn administered(alloc: Global, question: &Inquiry) -> Result<String, AllocError> {
-    let name = if question.operation == OpCode::CreateHandle {
-        format!(in alloc; "0.NA/{}", prefix_of(question))?
-    } else {
-        handle_of(alloc, question)?
-    };
-    printed_octets(alloc, name.as_bytes())
-}
-
-/// Says which handle's administrators may do what was asked, and how to find them.
-fn rights_advice(alloc: Global, question: &Inquiry) -> Result<String, AllocError> {
-    let handle = administered(alloc, question)?;
-    format!(in alloc;
-        ": the key of --key is no administrator of {handle} who may do this: `hdl resolve {handle} --type HS_ADMIN` names them; if none is there, see docs/FILE.md, \"If a key is lost\""
-    )
-}
-
-/// Says which value a new handle lacks.
-fn values_advice(alloc: Global, question: &Inquiry) -> Result<String, AllocError> {
-    let prefix = printed_octets(alloc, prefix_of(question).as_bytes())?;
-    format!(in alloc;
-        ": a new handle needs an HS_ADMIN value, such as '100 HS_ADMIN 86400 1110 ADMIN 300:111111111111:0.NA/{prefix}'"
-    )
-}
-
-/// What to do about a reply with this code to a question.
-fn advice(
-    alloc: Global,
-    question: &Inquiry,
-    code: Option<ResponseCode>,
-) -> Result<String, AllocError> {
-    match code {
-        Some(ResponseCode::NotAuthorized) => rights_advice(alloc, question),
-        Some(ResponseCode::ValueInvalid) if question.operation == OpCode::CreateHandle => {
-            values_advice(alloc, question)
-        }
-        Some(ResponseCode::ServiceReferral) if is_address(&question.handle) => {
-            String::from_str(alloc, ": write the handle alone, such as 10/a")
-        }
-        _ => String::from_str(alloc, way_on(question.operation, code)),
-    }
-}
-
 /// Says on standard error that no text can name a new handle, if its name has a space or a line feed.
 fn tell_unsayable(rt: &HostRuntime, question: &Inquiry) {
-    let handle = question.handle.as_str();
-    if question.operation != OpCode::CreateHandle {
-        return;
-    }
-    if handle.contains(' ') || handle.contains('\n') {
-        let _ = eprintln!(rt;
-            "hdl: a tenants text can't express the space or line feed in the name: `handled export` will leave the handle out"
-        );
+    if question.operation == OpCode::CreateHandle && is_unsayable(question.handle.as_bytes()) {
+        let _ = eprintln!(rt; "hdl: {UNSAYABLE}");
     }
 }
 
@@ -327,7 +151,13 @@ fn show(rt: &HostRuntime, question: &Inquiry, reply: &Reply) -> Result<u8, AskFa
         return Ok(0);
     }
     let code = view.header.response_code;
-    let more = advice(rt.alloc(), question, view.code())?;
+    let handle = handle_of(rt.alloc(), question)?;
+    let asked = Asked {
+        operation: question.operation,
+        handle: handle.as_bytes(),
+        keys: KeyWords::Options,
+    };
+    let more = advice(rt.alloc(), &asked, code)?;
     let _ = eprintln!(rt; "hdl: {code} {}{more}", code_name(code));
     Ok(1)
 }
@@ -372,6 +202,19 @@ fn ask_with_key(rt: &HostRuntime, question: &Inquiry) -> Result<u8, AskFault> {
 const VALUE_FORM: &str =
     ": write INDEX TYPE TTL PERMISSIONS FORMAT DATA, such as '1 URL 86400 1110 UTF8 https://example.org/'";
 
+/// The same of an administrator.
+const ADMIN_FORM: &str =
+    ": write INDEX TYPE TTL PERMISSIONS FORMAT DATA, such as '100 HS_ADMIN 86400 1110 ADMIN 300:111111111111:0.NA/10'";
+
+/// How a value is written in the place of this word, which has this fault.
+fn way_to_a_form(word: &str, fault: WordFault) -> &'static str {
+    match fault {
+        WordFault::Value(_) | WordFault::AdminFormat if is_administrator(word) => ADMIN_FORM,
+        WordFault::Value(_) => VALUE_FORM,
+        _ => "",
+    }
+}
+
 /// Whether a secret may stand in a word: in the line of a key, or in the digits of a value.
 fn may_have_secret(word: &str) -> bool {
     word.as_bytes().windows(6).any(|part| part.eq_ignore_ascii_case(b"SECKEY")
@@ -393,12 +236,7 @@ fn tell_word(rt: &HostRuntime, words: &[String], place: usize, fault: WordFault)
         Some(word) => word.as_str(),
         None => "",
     };
-    let way = match fault {
-        WordFault::Value(_) if word.contains('\t') =>
-            ": there is a tab: fields are separated by one space",
-        WordFault::Value(_) => VALUE_FORM,
-        _ => "",
-    };
+    let way = way_to_a_form(word, fault);
     let _ = match shown_word(rt.alloc(), place, word) {
         Ok(shown) => eprintln!(rt; "hdl: {shown}: {fault}{way}"),
         Err(_) => eprintln!(rt; "hdl: {fault}{way}"),

@@ -89,6 +89,15 @@ pub(crate) fn message_or_fault(
     Ok(request_message(alloc, wire, body)?)
 }
 
+/// Why a line is no operation. A tab is named.
+fn no_operation(line: &str) -> WordFault {
+    if line.contains('\t') {
+        WordFault::Tab
+    } else {
+        WordFault::Operation
+    }
+}
+
 /// The handle after an operation, and the indexes before it where the operation is to remove values.
 fn handle_of<'a>(
     operation: OpCode,
@@ -160,7 +169,7 @@ impl Reader<'_> {
             return Err(WordFault::Mark);
         }
         let Some((word, rest)) = text.split_once(' ') else {
-            return Err(WordFault::Operation);
+            return Err(no_operation(text));
         };
         if word == "AUTHENTICATE" {
             let Some(reference) = rest.strip_prefix("SECKEY:") else {
@@ -171,7 +180,7 @@ impl Reader<'_> {
         }
         match operation_in(word) {
             Some(operation) => self.begin(line, operation, text, rest),
-            None => Err(WordFault::Operation),
+            None => Err(no_operation(text)),
         }
     }
 

@@ -5,6 +5,7 @@ ghost use Rattle.hdl_msg.specs.declared.codes.ResponseCode.TheVariants.{Success}
 ghost use Rattle.hdl_msg.specs.Codes.{response_number};
 ghost use Rattle.hdl_commands.specs.Ended.{EndsWith};
 
+use crate::advice::{KeyWords, asked_by, line_advice};
 use crate::batch_text::{Layouts, read_batch};
 use crate::telling::tell_fault;
 use crate::words::code_name;
@@ -22,8 +23,6 @@ struct Tally<'r> {
     failures: usize,
     /// The lines of those that failed.
     failed: Vec<usize>,
-    /// Whether a request lacked a key.
-    lacks_key: bool,
     /// How many requests there are, where progress is shown.
     shown_of: Option<usize>,
 }
@@ -38,6 +37,21 @@ impl Tally<'_> {
             }
         }
     }
+
+    /// Prints the outcome of a task, with what to do about it.
+    fn print_outcome(&self, task: &Task, code: u32) {
+        let alloc = self.rt.alloc();
+        // without memory for it the title is missing
+        let title = printed_octets(alloc, task.title.as_bytes()).unwrap_or_else(|_| String::new(
+            alloc,
+        ));
+        let more = line_advice(alloc, asked_by(task, KeyWords::Batch), code);
+        let _ = println!(self.rt;
+            "line {}: {title}: {code} {}{more}",
+            task.line,
+            code_name(code)
+        );
+    }
 }
 
 impl Outcomes for Tally<'_> {
@@ -51,15 +65,7 @@ impl Outcomes for Tally<'_> {
             // without memory for it the line is missing from the last one
             let _ = self.failed.push(task.line);
         }
-        if code == ResponseCode::AuthenticationNeeded.number() {
-            self.lacks_key = true;
-        }
-        // likewise the title
-        let alloc = self.rt.alloc();
-        let title = printed_octets(alloc, task.title.as_bytes()).unwrap_or_else(|_| String::new(
-            alloc,
-        ));
-        let _ = println!(self.rt; "line {}: {title}: {code} {}", task.line, code_name(code));
+        self.print_outcome(task, code);
         self.show_progress();
     }
 }
@@ -76,11 +82,6 @@ fn print_end(tally: &Tally<'_>) {
     let _ = println!(tally.rt; "{succeeded} succeeded, {failures} failed");
     for line in &tally.failed {
         let _ = println!(tally.rt; "failed: line {line}");
-    }
-    if tally.lacks_key {
-        let _ = eprintln!(tally.rt;
-            "hdl: code 402 asks for a key: write AUTHENTICATE SECKEY:INDEX:HANDLE, such as SECKEY:300:0.NA/10, before the operations, and its secret on the next line"
-        );
     }
 }
 
@@ -106,8 +107,8 @@ fn ask_all<S: Transport>(
     Ok(u8::from(tally.failures > 0))
 }
 
-/// Asks all of a batch, and prints a line for each outcome as it comes, and at the end how many succeeded and the lines of those that
-/// failed; progress on standard error, if that is a terminal and the outcomes go elsewhere, and what to do if a key is lacking. Answers the exit status: 0 if each request
+/// Asks all of a batch, and prints a line for each outcome as it comes, with what to do about it, and at the end how many succeeded and the lines of those that
+/// failed; progress on standard error, if that is a terminal and the outcomes go elsewhere. Answers the exit status: 0 if each request
 /// succeeded, 1 if all have outcomes and one failed, and 3 if the connection failed, with how many requests have no outcome.
 pub fn ask_batch<S: Transport>(
     rt: &HostRuntime,
@@ -122,7 +123,6 @@ pub fn ask_batch<S: Transport>(
         done: 0,
         failures: 0,
         failed: Vec::new(rt.alloc()),
-        lacks_key: false,
         shown_of: Some(batch.tasks.len()).filter(|_| is_watched(rt)),
     };
     let ended = ask_all(session, batch, &mut tally);

@@ -24,6 +24,8 @@ pub enum WordFault {
     KeyInWords,
     #[error("a tab: fields are separated by one space")]
     Tab,
+    #[error("the value's data is no administrator: the format is ADMIN")]
+    AdminFormat,
     #[error("no CREATE, ADD or MODIFY stands before this value")]
     Stray,
     #[error("the operation needs values or indexes")]

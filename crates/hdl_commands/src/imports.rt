@@ -13,6 +13,7 @@ mod columns;
 mod counts;
 mod creating;
 mod creation;
+mod progress;
 mod reading;
 mod row;
 mod rows;

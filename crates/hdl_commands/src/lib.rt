@@ -28,6 +28,7 @@
 //! ```
 #![tactic(auto)]
 
+mod advice;
 mod asking;
 mod batch_text;
 mod batches;

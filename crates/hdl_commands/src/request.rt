@@ -2,9 +2,9 @@
 
 use crate::fault::WordFault;
 use hdl_limits::{Items, Octets};
-use hdl_lines::{index_in, read_value_line};
+use hdl_lines::{LineFault, index_in, read_value_line};
 use hdl_msg::{OpCode, RequestBody};
-use hdl_value::Value;
+use hdl_value::{Value, ValueFault};
 use std::alloc::{AllocError, Global};
 
 /// Whether values go with an operation.
@@ -13,6 +13,32 @@ pub(crate) fn takes_values(operation: OpCode) -> bool {
         operation,
         OpCode::CreateHandle | OpCode::AddValue | OpCode::ModifyValue
     )
+}
+
+/// Whether the words of a value name the type of an administrator.
+pub(crate) fn is_administrator(words: &str) -> bool {
+    match words.split_once(' ') {
+        Some((_, rest)) => rest.starts_with("HS_ADMIN "),
+        None => false,
+    }
+}
+
+/// Why words are no value: a tab is named, and the format of an administrator.
+fn fault_in(words: &str, fault: LineFault) -> WordFault {
+    match fault {
+        LineFault::Memory => WordFault::Memory,
+        _ if words.contains('\t') => WordFault::Tab,
+        LineFault::Value(ValueFault::BadAdmin) => WordFault::AdminFormat,
+        other => WordFault::Value(other),
+    }
+}
+
+/// The value that words say.
+pub(crate) fn value_in(alloc: Global, words: &str) -> Result<Value, WordFault> {
+    match read_value_line(alloc, words.as_bytes()) {
+        Ok(value) => Ok(value),
+        Err(fault) => Err(fault_in(words, fault)),
+    }
 }
 
 /// The indexes, types and values of a request.
@@ -51,7 +77,7 @@ impl Details {
 
     /// Adds a value by a word of the command line. A key is refused: others on the machine can read that line.
     pub fn push_word(&mut self, alloc: Global, word: &str) -> Result<(), WordFault> {
-        let value = read_value_line(alloc, word.as_bytes())?;
+        let value = value_in(alloc, word)?;
         if value.is_secret_key() {
             return Err(WordFault::KeyInWords);
         }
@@ -61,7 +87,7 @@ impl Details {
 
     /// Adds a value by its line.
     pub fn push_value(&mut self, alloc: Global, line: &str) -> Result<(), WordFault> {
-        let value = read_value_line(alloc, line.as_bytes())?;
+        let value = value_in(alloc, line)?;
         self.values.push(value)?;
         Ok(())
     }

@@ -2,25 +2,13 @@
 
 use crate::batch_text::BatchFault;
 use crate::fault::WordFault;
-use hdl_lines::{LineFault, read_value_line};
+use crate::request::value_in;
 use hdl_value::write_value;
 use std::alloc::{AllocError, Global};
 
-/// Why the words are no value. A tab is named.
-fn fault_in(words: &str, fault: LineFault) -> WordFault {
-    if words.contains('\t') && fault != LineFault::Memory {
-        WordFault::Tab
-    } else {
-        WordFault::from(fault)
-    }
-}
-
 /// A value's line in hexadecimal digits.
 fn value_in_digits(alloc: Global, handle: &str, words: &str) -> Result<String, WordFault> {
-    let value = match read_value_line(alloc, words.as_bytes()) {
-        Ok(value) => value,
-        Err(fault) => return Err(fault_in(words, fault)),
-    };
+    let value = value_in(alloc, words)?;
     let octets = write_value(alloc, &value)?;
     let digits = hex::encode(alloc, &octets)?;
     Ok(format!(in alloc; "value {handle} {digits}\n")?)

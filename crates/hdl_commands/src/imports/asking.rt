@@ -1,10 +1,12 @@
 //! An import, asked of a server.
 
+use crate::advice::{UNSAYABLE, is_unsayable};
 use crate::batches::is_watched;
 use crate::fault::WordFault;
 use crate::imports::columns::Columns;
 use crate::imports::counts::{Counts, Refusal};
 use crate::imports::creating::{Creations, create_all};
+use crate::imports::progress::Progress;
 use crate::imports::row::DAY;
 use crate::imports::rows::{Form, HandleRows, Part};
 use crate::imports::update::Kept;
@@ -95,11 +97,8 @@ impl From<AllocError> for ImportFault {
 /// Says which handles of a part have a space in the name.
 fn tell_spaces(rt: &HostRuntime, part: &Part) {
     for task in &part.tasks {
-        if task.request.handle().contains(&b' ') {
-            let _ = println!(rt;
-                "line {}: {}: a tenants text can't express the space in the name: `handled export` will leave the handle out",
-                task.line, task.title
-            );
+        if is_unsayable(task.request.handle()) {
+            let _ = println!(rt; "line {}: {}: {UNSAYABLE}", task.line, task.title);
         }
     }
 }
@@ -156,50 +155,19 @@ fn ask_part<S: Transport>(
     Ok(true)
 }
 
-/// How many lines of the file stand between two lines of progress.
-const STRIDE: usize = 10_000;
-
-/// What is done with each part of the file, and how far it is. That is said in the last line of a terminal that shows nothing else, or else
-/// on a line each ten thousand lines of the file.
-#[derive(Drop)]
-struct Course<'r> {
-    rt: &'r HostRuntime,
-    /// How handles that are there are updated, if they are.
-    manner: Option<Manner>,
-    all: usize,
-    is_watched: bool,
-    shown: usize,
-}
-
-impl Course<'_> {
-    fn show(&mut self, lines: usize) {
-        if self.is_watched {
-            let _ = eprint!(self.rt; "\r{lines} of {} lines", self.all);
-        } else if lines.saturating_sub(self.shown) >= STRIDE {
-            self.shown = lines;
-            let _ = eprintln!(self.rt; "{lines} of {} lines", self.all);
-        }
-    }
-
-    fn end(&self) {
-        if self.is_watched {
-            let _ = eprintln!(self.rt);
-        }
-    }
-}
-
 fn ask_parts<S: Transport>(
+    rt: &HostRuntime,
     session: &mut Session<S>,
     rows: &mut HandleRows<'_>,
     batch: &mut Batch,
+    manner: Option<Manner>,
     counts: &mut Counts,
-    course: &mut Course<'_>,
 ) -> Result<(), ImportFault> {
     for _ in 0..u64::MAX {
-        if !ask_part(course.rt, session, rows, batch, course.manner, counts)? {
+        if !ask_part(rt, session, rows, batch, manner, counts)? {
             break;
         }
-        course.show(rows.lines);
+        counts.progress.note(rt, rows.rows());
         if let Some(refusal) = counts.refusal {
             return Err(ImportFault::from(refusal));
         }
@@ -210,8 +178,13 @@ fn ask_parts<S: Transport>(
     Ok(())
 }
 
-fn lines_in(text: &[u8]) -> usize {
-    text.iter().filter(|octet| **octet == b'\n').count()
+/// How many lines follow the first one.
+fn rows_in(text: &[u8]) -> usize {
+    let ends = text.iter().filter(|octet| **octet == b'\n').count();
+    match text {
+        [.., b'\n'] => ends.saturating_sub(1),
+        _ => ends,
+    }
 }
 
 /// A batch of nothing so far, with this key.
@@ -225,16 +198,17 @@ fn batch_of(alloc: Global, key: Key) -> Result<Batch, ClientFault> {
 }
 
 fn ask_all(
+    rt: &HostRuntime,
     server: &str,
     rows: &mut HandleRows<'_>,
     key: Key,
+    manner: Option<Manner>,
     counts: &mut Counts,
-    course: &mut Course<'_>,
 ) -> Result<(), ImportFault> {
-    let mut batch = batch_of(course.rt.alloc(), key)?;
-    let mut session = connect(course.rt, server)?;
-    let ended = ask_parts(&mut session, rows, &mut batch, counts, course);
-    course.end();
+    let mut batch = batch_of(rt.alloc(), key)?;
+    let mut session = connect(rt, server)?;
+    let ended = ask_parts(rt, &mut session, rows, &mut batch, manner, counts);
+    counts.progress.end(rt);
     ended
 }
 
@@ -302,14 +276,9 @@ fn import_rows(rt: &HostRuntime, import: &Import, counts: &mut Counts) -> Result
         Ok(key) => key,
         Err(fault) => return Err(ImportFault::Words(fault)),
     };
-    let mut course = Course {
-        rt,
-        manner: manner_of(import, &rows.columns),
-        all: lines_in(&text),
-        is_watched: is_watched(rt),
-        shown: 0,
-    };
-    ask_all(&import.server, &mut rows, key, counts, &mut course)
+    let manner = manner_of(import, &rows.columns);
+    counts.progress = Progress::new(rt, rows_in(&text), is_watched(rt));
+    ask_all(rt, &import.server, &mut rows, key, manner, counts)
 }
 
 fn print_counts(rt: &HostRuntime, import: &Import, counts: &Counts) {
@@ -351,13 +320,13 @@ fn tell(rt: &HostRuntime, import: &Import, fault: &ImportFault) {
 }
 
 /// Creates the handles of a CSV file, over one connection, the first one alone and then a thousand at a time with several requests in flight, and prints a line for
-/// each row and each handle that failed, and at the end how many came to what; progress on standard error. A handle that is there with
+/// each row and each handle that failed, and at the end how many came to what; on standard error each ten seconds how many rows are done. A handle that is there with
 /// just the values of its rows, whenever they were written, counts as done. An update asks first what is there, creates handles that
 /// aren't, brings the values of its rows to one that is, and prints what it changes. Answers the exit status: 0 where all handles are
 /// as the rows say, 1 where some aren't, or the key or every change is refused, or the server stays busy, 2 where nothing was sent, and 3 where the connection failed. A dry import tells
 /// what is wrong with the file alone, and a dry update what it would change.
 pub fn import_file(rt: &HostRuntime, import: &Import) -> u8 {
-    let mut counts = Counts::NONE;
+    let mut counts = Counts::new(Progress::new(rt, 0, false));
     let ended = import_rows(rt, import, &mut counts);
     let status = match &ended {
         Ok(()) => u8::from(counts.failed > 0),

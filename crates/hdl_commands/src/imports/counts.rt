@@ -2,7 +2,8 @@
 
 ghost use Rattle.std.specs.Prelude.{◌≡◌, ◌≢◌};
 
-use crate::asking::way_on;
+use crate::advice::{Asked, KeyWords, asked_by, line_advice};
+use crate::imports::progress::Progress;
 use crate::words::code_name;
 use hdl_client::Task;
 use hdl_msg::{OpCode, ResponseCode};
@@ -31,17 +32,29 @@ pub(crate) struct Counts {
     /// How many of the last requests were answered busy.
     pub busy: usize,
     pub refusal: Option<Refusal>,
+    pub progress: Progress,
 }
 
 impl Counts {
-    pub const NONE: Counts = Counts {
-        created: 0,
-        changed: 0,
-        there: 0,
-        failed: 0,
-        busy: 0,
-        refusal: None,
-    };
+    /// None so far.
+    pub fn new(progress: Progress) -> Counts {
+        Counts {
+            created: 0,
+            changed: 0,
+            there: 0,
+            failed: 0,
+            busy: 0,
+            refusal: None,
+            progress,
+        }
+    }
+
+    /// Notes that what there was to do for a task is done: all rows before those of its handle, and the first of them.
+    pub fn note_done(&mut self, rt: &HostRuntime, task: &Task)
+        ensures { self.new.failed ≡ self.old.failed }
+    {
+        self.progress.note(rt, task.line.saturating_sub(1));
+    }
 
     pub fn fail(&mut self)
         ensures { self.new.failed ≢ 0 }
@@ -100,5 +113,6 @@ pub(crate) fn print_line(rt: &HostRuntime, task: &Task, code: u32, more: &str) {
 
 /// Prints one for a handle of which a request of this operation was answered by a code, with what to do.
 pub(crate) fn print_code(rt: &HostRuntime, task: &Task, operation: OpCode, code: u32) {
-    print_line(rt, task, code, way_on(operation, ResponseCode::of(code)));
+    let asked = asked_by(task, KeyWords::Options).map(|asked| Asked { operation, ..asked });
+    print_line(rt, task, code, &line_advice(rt.alloc(), asked, code));
 }

@@ -42,6 +42,7 @@ impl Outcomes for Creations<'_> {
     ghost notes = { λ old task code new. new.counts.failed ≡ 0 → (old.counts.failed ≡ 0) × (((code ≡ response_number Success) × (new.found.items ≡ old.found.items)) ⊎ (new.found.items ≡ old.found.items ++ task.line ∷ [])) };
 
     fn note_reply(&mut self, task: &Task, code: u32, _reply: &ReplyView<'_>) {
+        self.counts.note_done(self.rt, task);
         if code == ResponseCode::Success.number() {
             self.counts.created = self.counts.created.saturating_add(1);
             self.counts.busy = 0;

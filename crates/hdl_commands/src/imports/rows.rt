@@ -154,7 +154,7 @@ pub(crate) struct HandleRows<'t> {
     width: usize,
     rest: &'t [u8],
     /// How many lines were taken.
-    pub lines: usize,
+    lines: usize,
     /// How many handles are read next at most.
     most: usize,
     entry: Option<Entry>,
@@ -316,6 +316,15 @@ impl<'t> HandleRows<'t> {
                 faults.left_out();
             }
         }
+    }
+
+    /// How many rows were read, those of a handle that was only begun not among them.
+    pub fn rows(&self) -> usize {
+        let lines = match &self.entry {
+            Some(entry) => entry.line.saturating_sub(1),
+            None => self.lines,
+        };
+        lines.saturating_sub(1)
     }
 
     /// Has the next call of [`HandleRows::fill`] read one handle, as the first did.

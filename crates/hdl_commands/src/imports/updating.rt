@@ -294,6 +294,7 @@ pub(crate) fn update_part<S: Transport>(
         } else {
             counts.fail();
         }
+        counts.note_done(rt, &plan.task);
         if counts.refusal.is_some() {
             return Ok(Vec::new(rt.alloc()));
         }

@@ -1,6 +1,6 @@
 //! Replacements, asked of a server.
 
-use crate::asking::way_on;
+use crate::advice::{Asked, KeyWords, advice};
 use crate::fault::WordFault;
 use crate::imports::HEADER;
 use crate::key::key_of;
@@ -229,6 +229,26 @@ fn way_to_a_list(code: Option<ResponseCode>) -> &'static str {
     }
 }
 
+/// What to do if the server answers by this code in the place of a list.
+fn list_advice(alloc: Global, replacement: &Replacement, number: u32) -> Result<String, WordFault> {
+    let authority = authority_of(alloc, &replacement.prefix)?;
+    let asked = Asked {
+        operation: OpCode::ListHandles,
+        handle: authority.sent(),
+        keys: KeyWords::Options,
+    };
+    Ok(advice(alloc, &asked, number)?)
+}
+
+/// Says on standard error that the server answered by this code in the place of a list.
+fn tell_no_list(rt: &HostRuntime, replacement: &Replacement, number: u32) {
+    let alloc = rt.alloc();
+    // without memory for it the advice is missing
+    let way = list_advice(alloc, replacement, number).unwrap_or_else(|_| String::new(alloc));
+    let more = way_to_a_list(ResponseCode::of(number));
+    let _ = eprintln!(rt; "hdl: no list: {number} {}{way}{more}", code_name(number));
+}
+
 /// Says on standard error why a replacement stopped.
 fn tell(rt: &HostRuntime, replacement: &Replacement, fault: &ReplaceFault) {
     let _ = match fault {
@@ -244,10 +264,8 @@ fn tell(rt: &HostRuntime, replacement: &Replacement, fault: &ReplaceFault) {
             eprintln!(rt; "hdl: {file}: {fault}: check --handles")
         }
         ReplaceFault::List(number) => {
-            let code = ResponseCode::of(*number);
-            let way = way_on(OpCode::ListHandles, code);
-            let more = way_to_a_list(code);
-            eprintln!(rt; "hdl: no list: {number} {}{way}{more}", code_name(*number))
+            tell_no_list(rt, replacement, *number);
+            Ok(())
         }
         other => eprintln!(rt; "hdl: {other}"),
     };

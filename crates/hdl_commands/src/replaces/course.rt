@@ -1,6 +1,6 @@
 //! What is done with each handle of a replacement.
 
-use crate::asking::way_on;
+use crate::advice::{Asked, KeyWords, advice};
 use crate::imports::{row_of, whole_values};
 use crate::replaces::asking::Replacement;
 use crate::replaces::data::{URL, all_replaced};
@@ -98,8 +98,14 @@ impl Course<'_> {
 
     /// Says that a request of this operation was answered by a code, and what to do.
     fn tell_code(&self, handle: &[u8], operation: OpCode, code: u32) -> Result<(), AllocError> {
-        let way = way_on(operation, ResponseCode::of(code));
-        let what = format!(in self.rt.alloc(); "{code} {}{way}", code_name(code))?;
+        let alloc = self.rt.alloc();
+        let asked = Asked {
+            operation,
+            handle,
+            keys: KeyWords::Options,
+        };
+        let more = advice(alloc, &asked, code)?;
+        let what = format!(in alloc; "{code} {}{more}", code_name(code))?;
         self.tell(handle, &what)
     }
 

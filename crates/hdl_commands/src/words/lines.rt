@@ -34,7 +34,7 @@ fn push_frame(
         };
     }
     match read_reply(wire, message) {
-        Ok(reply) => push_reply(printout, envelope, &reply),
+        Ok(reply) => push_reply(printout, envelope, &reply, None),
         Err(_) => printout.push(";; a frame, but its message is no reply"),
     }
 }

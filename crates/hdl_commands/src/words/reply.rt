@@ -5,7 +5,7 @@ use crate::words::printout::Printout;
 use crate::words::value::{push_data, push_value};
 use hdl_frame::Envelope;
 use hdl_lines::printed_octets;
-use hdl_msg::{ContentView, Digest, ReplyView, Strings, Values};
+use hdl_msg::{ContentView, Digest, OpCode, ReplyView, Strings, Values};
 use std::alloc::AllocError;
 
 fn push_values(
@@ -60,16 +60,27 @@ fn push_content(printout: &mut Printout, content: ContentView<'_>) -> Result<(),
     }
 }
 
-/// Adds a reply with the numbers of its envelope: a comment with the numbers, the operation and the code, and what it carries.
+/// The operation of a reply: the one that was asked, if it is known and the reply has none.
+fn operation_of(reply: &ReplyView<'_>, asked: Option<OpCode>) -> &'static str {
+    let number = reply.header.op_code;
+    match (OpCode::of(number), asked) {
+        (None, Some(operation)) => operation_name(operation.number()),
+        _ => operation_name(number),
+    }
+}
+
+/// Adds a reply with the numbers of its envelope: a comment with the numbers, the operation and the code, and what it carries. The operation
+/// that was asked stands there if it is known and the reply has none.
 pub fn push_reply(
     printout: &mut Printout,
     envelope: &Envelope,
     reply: &ReplyView<'_>,
+    asked: Option<OpCode>,
 ) -> Result<(), AllocError> {
     let code = reply.header.response_code;
     let line = format!(in printout.alloc;
         ";; reply to {} {}, session {}: {code} {}",
-        operation_name(reply.header.op_code),
+        operation_of(reply, asked),
         envelope.request,
         envelope.session,
         code_name(code)
