@@ -209,7 +209,8 @@ const ADMIN_FORM: &str =
 /// How a value is written in the place of this word, which has this fault.
 fn way_to_a_form(word: &str, fault: WordFault) -> &'static str {
     match fault {
-        WordFault::Value(_) | WordFault::AdminFormat if is_administrator(word) => ADMIN_FORM,
+        WordFault::AdminFormat => ADMIN_FORM,
+        WordFault::Value(_) if is_administrator(word) => ADMIN_FORM,
         WordFault::Value(_) => VALUE_FORM,
         _ => "",
     }

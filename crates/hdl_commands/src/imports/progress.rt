@@ -2,10 +2,11 @@
 
 use std::time::Instant;
 
-/// How many seconds are between two lines of progress, and between two looks of a terminal.
+/// How many seconds are between two lines of progress.
 const PAUSE: u64 = 10;
 
-const LOOK: u64 = 1;
+/// The same in the last line of a terminal.
+const WATCHED_PAUSE: u64 = 1;
 
 /// How far an import is, and when that was said last. It is said in the last line of a terminal that shows nothing else, or else on lines of their own.
 #[derive(Clone, Copy)]
@@ -32,7 +33,11 @@ impl Progress {
 
     /// Whether it is time to say it.
     fn is_due(&mut self, rt: &HostRuntime) -> bool {
-        let pause = if self.is_watched { LOOK } else { PAUSE };
+        let pause = if self.is_watched {
+            WATCHED_PAUSE
+        } else {
+            PAUSE
+        };
         let (Some(said), Ok(now)) = (self.said, Instant::now(rt)) else {
             return false;
         };
