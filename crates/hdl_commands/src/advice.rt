@@ -59,7 +59,7 @@ fn way_to_the_rest(operation: OpCode) -> &'static str {
 }
 
 /// What to do if there is no such handle.
-fn way_to_a_handle(operation: OpCode) -> &'static str {
+fn advice_on_handle(operation: OpCode) -> &'static str {
     match operation {
         OpCode::AddValue | OpCode::ModifyValue => {
             ": check its name; a new handle is made by `hdl create`"
@@ -120,7 +120,7 @@ fn is_address(octets: &[u8]) -> bool {
 }
 
 /// Which server to ask, or how a handle is written.
-fn way_to_a_server(handle: &[u8]) -> &'static str {
+fn advice_on_server(handle: &[u8]) -> &'static str {
     let words = handle.strip_prefix(b"0.NA/").unwrap_or(handle);
     if is_address(words) {
         ": write the handle alone, such as 10/a"
@@ -130,7 +130,7 @@ fn way_to_a_server(handle: &[u8]) -> &'static str {
 }
 
 /// How a key is given.
-fn way_to_a_key(keys: KeyWords) -> &'static str {
+fn advice_on_key(keys: KeyWords) -> &'static str {
     match keys {
         KeyWords::Options => ": give --key INDEX:HANDLE, and its secret in HDL_SECRET",
         KeyWords::Batch => {
@@ -140,7 +140,7 @@ fn way_to_a_key(keys: KeyWords) -> &'static str {
 }
 
 /// Where the secret of a key is said.
-fn way_to_a_secret(keys: KeyWords) -> &'static str {
+fn advice_on_secret(keys: KeyWords) -> &'static str {
     match keys {
         KeyWords::Options => ": the secret isn't that of the key: check HDL_SECRET",
         KeyWords::Batch => {
@@ -167,7 +167,7 @@ fn way_on(asked: &Asked<'_>, code: ResponseCode) -> &'static str {
         }
         ResponseCode::ProtocolError => way_to_a_layout(operation),
         ResponseCode::OperationDenied => way_to_change(operation),
-        ResponseCode::HandleNotFound => way_to_a_handle(operation),
+        ResponseCode::HandleNotFound => advice_on_handle(operation),
         ResponseCode::InvalidHandle => way_to_a_name(operation),
         ResponseCode::HandleAlreadyExists if operation == OpCode::CreateHandle => {
             ": change it by `hdl modify` or `hdl add`"
@@ -176,9 +176,9 @@ fn way_on(asked: &Asked<'_>, code: ResponseCode) -> &'static str {
         ResponseCode::ValueAlreadyExists if operation == OpCode::AddValue => {
             ": a value with an index that exists is changed by `hdl modify`"
         }
-        ResponseCode::ServiceReferral => way_to_a_server(asked.handle),
-        ResponseCode::AuthenticationNeeded => way_to_a_key(asked.keys),
-        ResponseCode::AuthenticationFailed => way_to_a_secret(asked.keys),
+        ResponseCode::ServiceReferral => advice_on_server(asked.handle),
+        ResponseCode::AuthenticationNeeded => advice_on_key(asked.keys),
+        ResponseCode::AuthenticationFailed => advice_on_secret(asked.keys),
         _ => "",
     }
 }

@@ -207,7 +207,7 @@ const ADMIN_FORM: &str =
     ": write INDEX TYPE TTL PERMISSIONS FORMAT DATA, such as '100 HS_ADMIN 86400 1110 ADMIN 300:111111111111:0.NA/10'";
 
 /// How a value is written in the place of this word, which has this fault.
-fn way_to_a_form(word: &str, fault: WordFault) -> &'static str {
+fn advice_on_form(word: &str, fault: WordFault) -> &'static str {
     match fault {
         WordFault::AdminFormat => ADMIN_FORM,
         WordFault::Value(_) if is_administrator(word) => ADMIN_FORM,
@@ -237,7 +237,7 @@ fn tell_word(rt: &HostRuntime, words: &[String], place: usize, fault: WordFault)
         Some(word) => word.as_str(),
         None => "",
     };
-    let way = way_to_a_form(word, fault);
+    let way = advice_on_form(word, fault);
     let _ = match shown_word(rt.alloc(), place, word) {
         Ok(shown) => eprintln!(rt; "hdl: {shown}: {fault}{way}"),
         Err(_) => eprintln!(rt; "hdl: {fault}{way}"),
