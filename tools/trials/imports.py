@@ -510,21 +510,21 @@ def busy():
 
 
 def slow():
-    """A server that takes five seconds for some of six handles: after ten seconds it is said how many rows are done."""
+    """A server that takes five seconds for two of twelve handles: after ten seconds it is said how many rows are done."""
     with socket.create_server(("127.0.0.1", 0)) as listener:
         def serve():
             with listener.accept()[0] as stream, stream.makefile("rb") as octets:
-                for pause in (0, 0, 5.2, 5.2, 0, 0):
+                for pause in (0, 0, 5.2, 5.2, *[0] * 8):
                     envelope = octets.read(20)
                     operation = int.from_bytes(octets.read(int.from_bytes(envelope[16:20], "big"))[:4], "big")
                     time.sleep(pause)
                     stream.sendall(wire.frame(wire.message(operation, b"", wire.SUCCESS), request=int.from_bytes(envelope[8:12], "big")))
         thread = threading.Thread(target=serve, daemon=True)
         thread.start()
-        rows = b"handle,type,data,ttl\n" + b"".join(b"10/slow%d,URL,a,1\n10/slow%d,URL,b,1\n" % (number, number) for number in range(6))
-        done = run(listener.getsockname()[1], rows)
+        rows = b"handle,type,data,ttl\n" + b"".join(b"10/slow%d,URL,a,1\n10/slow%d,URL,b,1\n" % (number, number) for number in range(12))
+        status, out, err = run(listener.getsockname()[1], rows)
         thread.join(10)
-    yield "a slow server", done == (0, "6 created, 0 there already, 0 failed\n", "hdl: 7 of 12 rows\n")
+    yield "a slow server", (status, out) == (0, "12 created, 0 there already, 0 failed\n") and bool(re.fullmatch(r"(hdl: \d+ of 24 rows\n)+", err))
 
 
 def closed():
