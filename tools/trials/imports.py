@@ -139,7 +139,7 @@ QUOTE = "a quote isn't closed: put a field with a quote into quotes, and double 
 FIELDS = "the line has more or fewer fields than the header: put a field with a comma or semicolon into quotes"
 RETURN = "the line contains a CR: end lines with LF or CR LF"
 TEXT = "the data isn't text on one line"
-SPACE = "the data begins or ends with a space: create such a value with `hdl batch`"
+SPACE = "the data begins or ends with a space: take it out"
 MANY_VALUES = "the handle has more than 256 values: create it with some, and add the others with `hdl batch`"
 # Of a faulty handle: its rows, and which of them is told with which words.
 FAULTS = (
@@ -162,7 +162,7 @@ FAULTS = (
     (["10/f15,1,HS_VLIST,300,1,1110"], 0, "the data isn't INDEX:HANDLE and more of them"),
     (["10/f16,1,HS_SECKEY,a secret,1,1100"], 0, "an HS_SECKEY value is refused in a CSV file: create it with `hdl batch`"),
     (["10,1,URL,https://example.org/,1,1110"], 0, "the name has no slash"),
-    ([",1,URL,https://example.org/,1,1110"], 0, "the name has no slash"),
+    ([",1,URL,https://example.org/,1,1110"], 0, "the row has no handle"),
     (["10/\x1b[2J,1,URL,https://example.org/,x,1110"], 0, "the TTL isn't a number"),
     # the rows of one handle: none of them is imported
     (["10/f20,1,URL,https://example.org/,1,1110", "10/f20,2,URL,https://example.org/,x,1110"], 1, "the TTL isn't a number"),

@@ -206,6 +206,15 @@ const VALUE_FORM: &str =
 const ADMIN_FORM: &str =
     ": write INDEX TYPE TTL PERMISSIONS FORMAT DATA, such as '100 HS_ADMIN 86400 1110 ADMIN 300:111111111111:0.NA/10'";
 
+/// The same of a value that isn't one word.
+const UNQUOTED: &str =
+    "a value is one argument: put it into quotes, such as '1 URL 86400 1110 UTF8 https://example.org/'";
+
+/// Whether a word is a part of a value whose quotes were forgotten.
+fn is_unquoted(word: &str, fault: WordFault) -> bool {
+    matches!(fault, WordFault::Value(_)) && !word.contains(' ')
+}
+
 /// How a value is written in the place of this word, which has this fault.
 fn advice_on_form(word: &str, fault: WordFault) -> &'static str {
     match fault {
@@ -237,6 +246,10 @@ fn tell_word(rt: &HostRuntime, words: &[String], place: usize, fault: WordFault)
         Some(word) => word.as_str(),
         None => "",
     };
+    if is_unquoted(word, fault) {
+        let _ = eprintln!(rt; "hdl: value {}: {UNQUOTED}", place.saturating_add(1));
+        return;
+    }
     let way = advice_on_form(word, fault);
     let _ = match shown_word(rt.alloc(), place, word) {
         Ok(shown) => eprintln!(rt; "hdl: {shown}: {fault}{way}"),

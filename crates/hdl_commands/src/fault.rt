@@ -52,10 +52,12 @@ pub enum WordFault {
     Mark,
     #[error("the data is empty: create such a value with `hdl batch`")]
     NoData,
-    #[error("the data begins or ends with a space: create such a value with `hdl batch`")]
+    #[error("the data begins or ends with a space: take it out")]
     DataSpace,
     #[error("the data isn't UTF-8: save the file as CSV UTF-8")]
     DataNotUtf8,
+    #[error("the row has no handle")]
+    NoHandle,
     #[error("the header names the column {0} twice")]
     ColumnTwice(&'static str),
     #[error("--ttl isn't a number of seconds below 4294967296")]

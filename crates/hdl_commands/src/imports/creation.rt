@@ -140,6 +140,9 @@ pub(crate) fn creation_task(
     ensures creates { IfOk result (λ task. Creates wire key.now handle.now rows.items task.request.octets) }
     ensures layout { IfOk result (λ task. task.request.wire ≡ wire) }
 {
+    if handle.is_empty() {
+        return Err(WordFault::NoHandle);
+    }
     Name::read(alloc, handle)?;
     let message = creation(alloc, wire, key, handle, rows)?;
     Ok(Task {
