@@ -1,1 +1,4 @@
 pub mod Handles
+pub mod List
+pub mod Listed
+pub mod Search
