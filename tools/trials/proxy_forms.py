@@ -300,7 +300,14 @@ def meanwhile(one):
     one.send(button=1)
     by_another(one, index=5)
     one.confirm()
-    yield "what isn't there can't be removed", one.status == 409 and not one.page.forms
+    yield "what isn't there can't be removed", one.status == 409 and not one.page.forms and "The value is so already" in one.page.words
+    by_another(one, data=OLD, **url)
+    shown()
+    page, at = one.page, one.at
+    one.confirm()
+    done, one.page, one.at = one.status, page, at
+    one.confirm()
+    yield "a form that is sent twice", (done, one.status) == (200, 409) and is_form_page(one) and "The value is so already" in one.page.words and not one.page.forms
     by_another(one, data=OLD, **url)
     shown()
     by_another(one, index=5)

@@ -1,2 +1,4 @@
+pub mod Leaves
 pub mod Made
+pub mod Rows
 pub mod Unchanged

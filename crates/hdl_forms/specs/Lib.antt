@@ -1,6 +1,7 @@
 pub mod Change
 pub mod Draft
 pub mod Guarded
+pub mod Lists
 pub mod Offer
 pub mod Origin
 pub mod Pages

@@ -6,11 +6,12 @@ use Rattle.hdl_proxy.specs.declared.answer.Media.TheVariants.{Page}
 use Rattle.hdl_proxy.specs.declared.answer.Status.TheVariants.{Success, Gone}
 use Rattle.hdl_forms.specs.declared.offer.Offer.{Offer}
 use Rattle.hdl_forms.specs.declared.offer.Offer.TheVariants as offers
-use Rattle.hdl_forms.specs.declared.offer.TheConstants.{CHANGE, CREATE}
+use Rattle.hdl_forms.specs.declared.offer.TheConstants.{CHANGE, CREATE, CREATE_OR_LIST}
 
 abbrev pub offer_markup : Offer → List ℕ
 offer_markup offers.Change = CHANGE.now
 offer_markup offers.Create = CREATE.now
+offer_markup offers.CreateOrList = CREATE_OR_LIST.now
 
 -- a page that is no error, also that a handle is gone, and that others may keep, as no page of a form is
 abbrev pub HasOffer : Answer → Type 0

@@ -3,7 +3,7 @@ use Rattle.std.specs.Prelude.{◌≡◌, ℕ, ◌==◌, if◌then◌else◌, Lis
 use Rattle.hdl_proxy.specs.Escape.{escaped}
 use Rattle.hdl_forms.specs.declared.markup.Template.{Template}
 use Rattle.hdl_forms.specs.declared.markup.Template.TheVariants as templates
-use Rattle.hdl_forms.specs.declared.markup.TheConstants.{VALUES, VALUE, NONE, ADD, GONE, CREATE, SHOWN, CHANGED, CONFIRM, DONE, REFUSED}
+use Rattle.hdl_forms.specs.declared.markup.TheConstants.{VALUES, VALUE, NONE, ADD, GONE, CREATE, SHOWN, CHANGED, CONFIRM, DONE, REFUSED, LIST, FIND, FIND_OR_NEXT, ROWS, ROW, ROWS_END, NOTHING, LIST_FOOT}
 use Rattle.hdl_forms.specs.declared.template.TheConstants.{HOLE}
 
 abbrev pub markup_of : Template → List ℕ
@@ -18,6 +18,14 @@ markup_of templates.Changed = CHANGED.now
 markup_of templates.Confirm = CONFIRM.now
 markup_of templates.Done = DONE.now
 markup_of templates.Refused = REFUSED.now
+markup_of templates.List = LIST.now
+markup_of templates.Find = FIND.now
+markup_of templates.FindOrNext = FIND_OR_NEXT.now
+markup_of templates.Rows = ROWS.now
+markup_of templates.Row = ROW.now
+markup_of templates.RowsEnd = ROWS_END.now
+markup_of templates.Nothing = NOTHING.now
+markup_of templates.ListFoot = LIST_FOOT.now
 
 -- the text of this place, and an empty one behind the last
 abbrev pub text_at : List (List ℕ) → ℕ → List ℕ

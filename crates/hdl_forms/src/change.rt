@@ -215,6 +215,24 @@ fn reference_in(words: &str) -> Option<(u32, &str)>
     read_reference(words)
 }
 
+/// The key that was typed, with its secret.
+pub(crate) fn key_of(alloc: Global, typed: TypedKey<'_>) -> Result<Key, TypedFault>
+    ensures key { IfOk result (IsKeyOf typed.entry.key.now typed.entry.secret.now) }
+    ensures short { IfOk result (λ key. length key.handle < 2 ^ 32) }
+{
+    let Some((index, handle)) = reference_in(typed.key) else {
+        return Err(TypedFault::Key);
+    };
+    if typed.secret.is_empty() {
+        return Err(TypedFault::Secret);
+    }
+    Ok(Key {
+        handle: octets(alloc, handle.as_bytes())?,
+        index,
+        secret: octets(alloc, typed.secret.as_bytes())?,
+    })
+}
+
 /// The order that a change of this handle by this key is: the same as one of HTTP. What the form doesn't name isn't touched.
 pub fn order_of(
     alloc: Global,
@@ -227,19 +245,9 @@ pub fn order_of(
     ensures act { IfOk result (λ made. IsActOf draft.now made.order.act) }
     ensures body { IfOk result (λ made. IsBodyOf name draft.now made.order.key.index made.order.key.handle made.body.items) }
 {
-    let Some((index, handle)) = reference_in(typed.key) else {
-        return Err(TypedFault::Key);
-    };
-    if typed.secret.is_empty() {
-        return Err(TypedFault::Secret);
-    }
-    let body = body_of(alloc, name.sent(), draft, index, handle.as_bytes())?;
+    let key = key_of(alloc, typed)?;
+    let body = body_of(alloc, name.sent(), draft, key.index, key.handle.as_slice())?;
     let act = act_of(alloc, draft)?;
-    let key = Key {
-        handle: octets(alloc, handle.as_bytes())?,
-        index,
-        secret: octets(alloc, typed.secret.as_bytes())?,
-    };
     Ok(FormOrder {
         order: Order { name, key, act },
         body,

@@ -94,3 +94,19 @@ pub(crate) fn fault_of_name(of: NameFault) -> Fault<'static> {
         ),
     }
 }
+
+/// What is said of a prefix that is none.
+pub(crate) fn fault_of_prefix() -> Fault<'static> {
+    fault_at(
+        Field::Handle,
+        "A prefix is what stands before the slash of a handle, such as 10.",
+    )
+}
+
+/// What is said of too many words that are looked for.
+pub(crate) fn fault_of_words() -> Fault<'static> {
+    fault_at(
+        Field::Top,
+        "The words in the handle, and those in the URL, may have up to 256 bytes each.",
+    )
+}

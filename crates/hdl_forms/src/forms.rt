@@ -52,7 +52,7 @@ impl FormPlace {
     }
 
     /// Where it is opened again, from its own address.
-    fn address(&self) -> &'static str {
+    pub fn address(&self) -> &'static str {
         match self {
             FormPlace::Edit(_) => "?edit",
             FormPlace::New => "/?new",
@@ -150,7 +150,7 @@ pub enum FormStep {
     Order(FormOrder, FilledForm),
 }
 
-fn text_at<'a>(pairs: &'a [Pair], name: &str) -> &'a str
+pub(crate) fn text_at<'a>(pairs: &'a [Pair], name: &str) -> &'a str
     ensures { result.now ≡ text_in name.now (texts_of pairs.now) }
 {
     first_named(pairs, name).unwrap_or("")
@@ -275,10 +275,10 @@ fn take_fields(
     }
 }
 
-/// The page that refuses a form of another site's page. None where it comes from this site.
+/// The page that refuses a form of another site's page; it leads to the form at this address. None where it comes from this site.
 pub fn refuse_foreign(
     alloc: Global,
-    place: &FormPlace,
+    address: &'static str,
     sender: Sender<'_>,
 ) -> Result<Option<Answer>, AllocError>
     ensures own { is_own (option_copied sender.entry.site) (option_copied sender.entry.origin) (option_copied sender.entry.host) ≡ true → IfOk result (λ page. page ≡ None) }
@@ -290,30 +290,35 @@ pub fn refuse_foreign(
     let why = "This form came from another site";
     let advice =
         "Nothing was done. A form is taken only from a browser that says that its page was one of this site.";
-    Ok(Some(refused_page(alloc, Status::Forbidden, why, advice, place.address())?))
+    Ok(Some(refused_page(alloc, Status::Forbidden, why, advice, address)?))
 }
 
 /// The page that refuses a form that didn't come whole.
-pub fn refuse_unread(alloc: Global, place: &FormPlace, status: Status) -> Result<Answer, AllocError>
+pub fn refuse_unread(
+    alloc: Global,
+    address: &'static str,
+    status: Status,
+) -> Result<Answer, AllocError>
     ensures { IfOk result (IsFormPage status) }
 {
     let why = "This form didn't arrive whole";
     let advice =
         "Nothing was done. It may have at most 1048576 bytes, and must arrive within 10 seconds.";
-    refused_page(alloc, status, why, advice, place.address())
+    refused_page(alloc, status, why, advice, address)
 }
 
-fn outdated(alloc: Global, place: &FormPlace) -> Result<FormStep, AllocError>
-    ensures { IfOk result (IsStep (λ _ _. ⊥)) }
+/// The page that refuses a form whose token isn't accepted; it leads to the form at this address.
+pub(crate) fn outdated_page(alloc: Global, address: &'static str) -> Result<Answer, AllocError>
+    ensures { IfOk result (IsFormPage Forbidden) }
 {
     let why = "This form is too old";
     let advice =
         "Nothing was done. A form can be sent for an hour, and until the server starts again.";
-    Ok(FormStep::Page(refused_page(alloc, Status::Forbidden, why, advice, place.address())?))
+    refused_page(alloc, Status::Forbidden, why, advice, address)
 }
 
 /// The fields of a form's body. One that isn't text has none.
-fn fields_of(alloc: Global, body: &[u8]) -> Result<Vec<Pair>, AllocError>
+pub(crate) fn fields_of(alloc: Global, body: &[u8]) -> Result<Vec<Pair>, AllocError>
     ensures { IfOk result (λ pairs. texts_of pairs.items ≡ fields_of body.now) }
 {
     let Ok(text) = str::from_utf8(body) else {
@@ -335,14 +340,14 @@ pub fn take_form(
     let pairs = fields_of(alloc, sent.body)?;
     let token = text_at(&pairs, "token").as_bytes();
     if !tokens.accepts(alloc, place.subject(), sent.now, token)? {
-        return outdated(alloc, place);
+        return Ok(FormStep::Page(outdated_page(alloc, place.address())?));
     }
     let next = tokens.token_of(alloc, place.subject(), sent.now)?;
     take_fields(alloc, place, &pairs, next)
 }
 
 /// Code and message of an answer in JSON.
-fn told_in(alloc: Global, answer: &Answer) -> Result<Option<Json>, AllocError> {
+pub(crate) fn told_in(alloc: Global, answer: &Answer) -> Result<Option<Json>, AllocError> {
     let Ok(text) = str::from_utf8(&answer.body) else {
         return Ok(None);
     };
@@ -364,8 +369,22 @@ fn field_of(status: Status, code: Option<u64>) -> Field {
     }
 }
 
+/// What is wrong, as an answer of this status says in JSON.
+pub(crate) fn fault_told(status: Status, told: Option<&Json>) -> Fault<'_> {
+    let words = told
+        .and_then(|json| json.get("message"))
+        .and_then(|json| json.as_str());
+    let code = told
+        .and_then(|json| json.get("responseCode"))
+        .and_then(|json| json.as_u64());
+    Fault {
+        field: field_of(status, code),
+        words: words.unwrap_or("The server couldn't answer."),
+    }
+}
+
 /// The status of a page: a browser would ask for a password by itself at 401.
-fn page_status(status: Status) -> Status
+pub(crate) fn page_status(status: Status) -> Status
     ensures { result ≡ page_status status }
 {
     match status {
@@ -382,16 +401,6 @@ pub fn result_page(alloc: Global, form: &FilledForm, answer: &Answer) -> Result<
         return done_page(alloc, answer.status, form);
     }
     let told = told_in(alloc, answer)?;
-    let told = told.as_ref();
-    let words = told
-        .and_then(|json| json.get("message"))
-        .and_then(|json| json.as_str());
-    let code = told
-        .and_then(|json| json.get("responseCode"))
-        .and_then(|json| json.as_u64());
-    let fault = Fault {
-        field: field_of(answer.status, code),
-        words: words.unwrap_or("The server couldn't answer."),
-    };
+    let fault = fault_told(answer.status, told.as_ref());
     confirm_page(alloc, page_status(answer.status), form, fault)
 }

@@ -4,13 +4,14 @@
 //! method, path, query -> form_at -> FormPlace
 //! GET:  form_question, a server's reply -> edit_page; or new_page
 //! POST: the body -> take_form -> FormStep::Page, or FormStep::Order -> carry_form -> a page
+//! /?list: list_at, list_form; POST: the body -> take_list -> ListStep::Page, or ListStep::Order -> carry_list -> a page
 //! ```
 //!
 //! A change takes two forms: the first says what shall stand there, the second shows old and new, and has the key and its secret. A form is taken
 //! if its page was one of this site, and its token was made by this process for this handle within an hour.
 //!
-//! This crate has no sockets and no clock. No function that makes a page is handed a key: only [`take_form`] and [`order_of`] see one, and
-//! what they give holds it in the order alone.
+//! This crate has no sockets and no clock. No function that makes a page is handed a key: only [`take_form`], [`take_list`] and [`order_of`] see one,
+//! and what they give holds it in the order alone.
 //!
 //! What it promises: `specs/Draft.antt` defines the change that a form says (`draft_in`), `specs/Change.antt` the order that it is, which names that value
 //! alone, and its JSON; `specs/Guarded.antt` that it is carried out only if that value is still as the form showed it ([`carry_form`]); `specs/Token.antt` which tokens are accepted; and `specs/Template.antt` that a page is markup of this crate with text escaped in its holes.
@@ -26,6 +27,7 @@ mod draft;
 mod fault;
 mod forms;
 mod guarded;
+mod lists;
 mod markup;
 mod offer;
 mod origin;
@@ -40,6 +42,9 @@ pub use forms::{
     refuse_unread, result_page, take_form,
 };
 pub use guarded::carry_form;
+pub use lists::{
+    LIST_ADDRESS, ListRequest, ListStep, carry_list, list_at, list_form, refused_list, take_list,
+};
 pub use offer::{Offer, with_offer};
 pub use origin::{Sender, is_own};
 pub use pages::FilledForm;

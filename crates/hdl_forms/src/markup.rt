@@ -132,6 +132,56 @@ const REFUSED: &str = "<h1>$</h1>
 <p><a href=\"$\">Open the form again</a></p>
 ";
 
+/// The form of a list: token; fault; prefix, fault; words in the handle, words in the URL; fault of the key, of the secret.
+const LIST: &str = "<h1>A list of handles</h1>
+<form class=\"fields\" action=\"/?list\" method=\"post\" autocomplete=\"off\">
+<input type=\"hidden\" name=\"token\" value=\"$\">
+<p class=\"fault\" role=\"alert\">$</p>
+<p><label for=\"list\">Prefix</label>
+<input id=\"list\" name=\"list\" value=\"$\" placeholder=\"10\" dir=\"auto\" aria-describedby=\"list-fault\" autocapitalize=\"off\" autocomplete=\"off\" spellcheck=\"false\" required></p>
+<p class=\"fault\" id=\"list-fault\">$</p>
+<p><label for=\"q\">Words in the handle, if not all are wanted</label>
+<input id=\"q\" name=\"q\" value=\"$\" dir=\"auto\" autocapitalize=\"off\" autocomplete=\"off\" spellcheck=\"false\"></p>
+<p><label for=\"to\">Words in the URL to which it leads, likewise</label>
+<input id=\"to\" name=\"to\" value=\"$\" dir=\"auto\" autocapitalize=\"off\" autocomplete=\"off\" spellcheck=\"false\"></p>
+<p><label for=\"key\">Your key, as INDEX:HANDLE</label>
+<input id=\"key\" name=\"key\" placeholder=\"300:0.NA/10\" aria-describedby=\"key-fault\" autocapitalize=\"off\" autocomplete=\"off\" spellcheck=\"false\" required></p>
+<p class=\"fault\" id=\"key-fault\">$</p>
+<p><label for=\"secret\">Its secret</label>
+<input id=\"secret\" name=\"secret\" type=\"password\" aria-describedby=\"secret-fault\" autocomplete=\"off\" required></p>
+<p class=\"fault\" id=\"secret-fault\">$</p>
+";
+
+/// The end of that form.
+const FIND: &str = "<p class=\"find\"><button>Find</button></p>
+</form>
+<p><small>Key and secret are used once and then forgotten: type them again for each search and each page.</small></p>
+";
+
+/// The same if there is a next page: the place where that begins.
+const FIND_OR_NEXT: &str =
+    "<p class=\"find\"><button>Find</button> <button class=\"less\" name=\"from\" value=\"$\">Next page</button></p>
+</form>
+<p><small>Key and secret are used once and then forgotten: type them again for each search and each page.</small></p>
+";
+
+/// Before the handles that were found, and behind them.
+const ROWS: &str = "<h2>Handles</h2>
+<ol>
+";
+
+const ROWS_END: &str = "</ol>\n";
+
+/// A handle: the address of its page, its name, and the URL to which it leads.
+const ROW: &str =
+    "<li><a href=\"$?noredirect\"><bdi>$</bdi></a><br><small><bdi>$</bdi></small></li>\n";
+
+const NOTHING: &str = "<p class=\"note\" role=\"status\">No handle was found on this page.</p>\n";
+
+const LIST_FOOT: &str =
+    "<p><small>The handles are those of a copy of the table, with the first URL that everyone may read. A page has at most 500. For each page at most 20000 handles are looked at, so the next page may have some if this one has none.</small></p>
+";
+
 /// A part of a page.
 #[derive(Clone, Copy, PartialEq, Eq)]
 pub(crate) enum Template {
@@ -146,6 +196,14 @@ pub(crate) enum Template {
     Confirm,
     Done,
     Refused,
+    List,
+    Find,
+    FindOrNext,
+    Rows,
+    Row,
+    RowsEnd,
+    Nothing,
+    ListFoot,
 }
 
 impl Template {
@@ -164,6 +222,14 @@ impl Template {
             Template::Confirm => CONFIRM,
             Template::Done => DONE,
             Template::Refused => REFUSED,
+            Template::List => LIST,
+            Template::Find => FIND,
+            Template::FindOrNext => FIND_OR_NEXT,
+            Template::Rows => ROWS,
+            Template::Row => ROW,
+            Template::RowsEnd => ROWS_END,
+            Template::Nothing => NOTHING,
+            Template::ListFoot => LIST_FOOT,
         }
     }
 }

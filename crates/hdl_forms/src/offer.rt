@@ -10,12 +10,18 @@ const CHANGE: &str = "<p><small><a href=\"?edit\">Change this handle</a></small>
 
 const CREATE: &str = "<p><small><a href=\"/?new\">Create a handle</a></small></p>\n";
 
+const CREATE_OR_LIST: &str = "<p><small><a href=\"/?new\">Create a handle</a></small></p>
+<p><small><a href=\"/?list\">List handles</a></small></p>
+";
+
 /// A form to which a page leads.
 #[derive(Clone, Copy, PartialEq, Eq)]
 pub enum Offer {
     /// That of the handle whose address the page has.
     Change,
     Create,
+    /// The same, and that of lists.
+    CreateOrList,
 }
 
 impl Offer {
@@ -25,6 +31,7 @@ impl Offer {
         match self {
             Offer::Change => CHANGE,
             Offer::Create => CREATE,
+            Offer::CreateOrList => CREATE_OR_LIST,
         }
     }
 }

@@ -1,6 +1,6 @@
 //! The pages with forms. None of them is handed a key.
 
-ghost use Rattle.std.specs.Prelude.{IfOk};
+ghost use Rattle.std.specs.Prelude.{◌≡◌, IfOk};
 ghost use Rattle.hdl_forms.specs.Pages.{IsFormPage};
 
 use crate::draft::{Draft, GONE, Task, URL, are_printed, is_type};
@@ -39,14 +39,15 @@ pub(crate) struct FieldTexts<'a> {
 }
 
 /// The answer of a page about this handle, which no one keeps.
-fn answer_of(
+pub(crate) fn answer_of(
     alloc: Global,
     status: Status,
     lead: &'static str,
     name: &[u8],
     page: FormPage,
 ) -> Result<Answer, AllocError>
-    ensures { IfOk result (IsFormPage status) }
+    ensures page { IfOk result (IsFormPage status) }
+    ensures body { IfOk result (λ answer. answer.body.items ≡ page) }
 {
     let mut title = Vec::from_slice(alloc, lead.as_bytes())?;
     title.extend_from_slice(name)?;
@@ -375,6 +376,21 @@ fn draft_of_now(alloc: Global, draft: Draft, there: Option<Value>) -> Option<Dra
     }
 }
 
+/// Whether what is there now is just what the change would put there.
+fn is_made(draft: &Draft, there: Option<&Value>) -> bool {
+    match there {
+        Some(value) => {
+            draft.task == Task::Change
+                && value.kind.as_slice() == draft.kind.as_slice()
+                && value.bytes.as_slice() == draft.text.as_slice()
+                && value.ttl[0] != ABSOLUTE
+                && seconds_of(value) == draft.ttl
+                && value.permissions == draft.permissions
+        }
+        None => draft.task == Task::Remove,
+    }
+}
+
 /// The page of a change whose value someone else changed meanwhile: what the form showed, what is there now, and the change, which can still be made.
 pub(crate) fn conflict_page(
     alloc: Global,
@@ -384,6 +400,11 @@ pub(crate) fn conflict_page(
     ensures { IfOk result (IsFormPage Status.Conflict) }
 {
     let FilledForm { name, draft, token } = form;
+    if is_made(&draft, there.as_ref()) {
+        let why = "The value is so already";
+        let advice = "Nothing was done. Perhaps you sent the form twice.";
+        return refused_page(alloc, Status::Conflict, why, advice, "?edit");
+    }
     let shown = Vec::from_slice(alloc, draft.old.as_slice())?;
     let Some(draft) = draft_of_now(alloc, draft, there) else {
         let why = "Someone else changed this value";

@@ -6,11 +6,14 @@ use crate::asks::AnswerResult;
 use crate::redirect_cache::KeptRedirect;
 use crate::shared::{Shared, WAITING_MOST};
 use crate::text::OwnText;
-use crate::worker::{ChangeJob, as_page};
+use crate::worker::{ChangeJob, OrderForm, as_page};
 use bytes::Bytes;
 use crossbeam_channel::Sender;
 use futures::channel::oneshot;
-use hdl_forms::{FilledForm, FormOrder, FormPlace, FormStep, SentForm, refuse_unread, take_form};
+use hdl_forms::{
+    FormOrder, FormPlace, FormStep, LIST_ADDRESS, ListStep, SentForm, refuse_unread, take_form,
+    take_list,
+};
 use hdl_msg::ResponseCode;
 use hdl_proxy::{Status, refusal};
 use hdl_writes::Order;
@@ -60,6 +63,8 @@ const SLOW: &str = "The body didn't arrive within 10 seconds. Nothing was done."
 pub(crate) enum Purpose {
     Order(Order),
     Form(FormPlace),
+    /// The form of a list.
+    List,
 }
 
 impl<R: Wait + Clock> ChangeQueue<R> {
@@ -136,9 +141,25 @@ impl<R: Wait + Clock> ChangeQueue<R> {
                 self.hand_on(Bundle {
                     order,
                     body: Bytes::copy_from_slice(self.alloc, &body)?,
-                    form: Some(form),
+                    form: Some(OrderForm::Change(form)),
                 })
             }
+        }
+    }
+
+    /// What is next for the form of a list with this body.
+    fn take_list(&self, body: &[u8]) -> Result<Progress, AllocError> {
+        let sent = SentForm {
+            now: self.shared.seconds(),
+            body,
+        };
+        match take_list(self.alloc, &self.shared.tokens, sent)? {
+            ListStep::Page(answer) => Ok(Progress::Answered(Ok(answer))),
+            ListStep::Order(order, request) => self.hand_on(Bundle {
+                order,
+                body: Bytes::new(),
+                form: Some(OrderForm::List(request)),
+            }),
         }
     }
 
@@ -147,6 +168,7 @@ impl<R: Wait + Clock> ChangeQueue<R> {
         match purpose {
             Purpose::Order(order) => self.take(order, body),
             Purpose::Form(place) => turn_of(self.take_form(&place, &body)),
+            Purpose::List => turn_of(self.take_list(&body)),
         }
     }
 
@@ -155,7 +177,8 @@ impl<R: Wait + Clock> ChangeQueue<R> {
         let code = ResponseCode::Error.number();
         Progress::Answered(match purpose {
             Purpose::Order(order) => refusal(self.alloc, status, order.name.sent(), code, why),
-            Purpose::Form(place) => refuse_unread(self.alloc, &place, status),
+            Purpose::Form(place) => refuse_unread(self.alloc, place.address(), status),
+            Purpose::List => refuse_unread(self.alloc, LIST_ADDRESS, status),
         })
     }
 
@@ -182,7 +205,7 @@ impl<R: Wait + Clock> ChangeQueue<R> {
 struct Bundle {
     order: Order,
     body: Bytes,
-    form: Option<FilledForm>,
+    form: Option<OrderForm>,
 }
 
 /// What is next, or that there was no memory.

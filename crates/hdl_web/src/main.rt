@@ -187,6 +187,7 @@ fn start_workers(
         routes,
         limit: words.timeout.saturating_mul(1000),
         writes: words.writes,
+        copied,
         keeps: words.cache.saturating_mul(1000),
     };
     Ok(ProxyWorkers {

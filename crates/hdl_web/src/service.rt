@@ -7,7 +7,10 @@ use crate::redirect_cache::KeptRedirect;
 use crate::shared::Shared;
 use crate::text::{OwnText, TextKind};
 use bytes::Bytes;
-use hdl_forms::{FormPlace, Offer, Sender, form_at, form_question, new_page, refuse_foreign};
+use hdl_forms::{
+    FormPlace, LIST_ADDRESS, ListRequest, Offer, Sender, form_at, form_question, list_at,
+    list_form, new_page, refuse_foreign,
+};
 use hdl_proxy::{Next, begin};
 use hdl_writes::{Begun, SentRequest, begin_with_key};
 use http::header::{AUTHORIZATION, AsHeaderName, HOST, IF_NONE_MATCH, ORIGIN};
@@ -76,12 +79,12 @@ fn sender_of<B>(req: &Request<B>) -> Sender<'_> {
     }
 }
 
-/// The form to which a page leads that has this address.
-fn offer_at(path: &str) -> Offer {
-    if path == "/" {
-        Offer::Create
-    } else {
-        Offer::Change
+/// The form to which a page leads that has this address; also that of lists, if there are any.
+fn offer_at(path: &str, has_lists: bool) -> Offer {
+    match path {
+        "/" if has_lists => Offer::CreateOrList,
+        "/" => Offer::Create,
+        _ => Offer::Change,
     }
 }
 
@@ -167,11 +170,36 @@ impl<R: Wait + Clock + Copy + Drop> ProxyService<R> {
     fn start_form<B>(&self, req: &Request<B>, place: FormPlace) -> Result<Start<R>, AllocError> {
         match req.method().as_str() {
             "GET" | "HEAD" => Ok(Start::Progress(self.show_form(place)?)),
-            "POST" => match refuse_foreign(self.alloc, &place, sender_of(req))? {
-                Some(answer) => Ok(Start::Progress(Progress::Answered(Ok(answer)))),
-                None => Ok(Start::Body(Purpose::Form(place), self.change_queue()?)),
-            },
+            "POST" => self.take_from_page(req, place.address(), Purpose::Form(place)),
             _ => self.begin(sent_by(req)),
+        }
+    }
+
+    /// What a request for a list is.
+    fn start_list<B>(
+        &self,
+        req: &Request<B>,
+        request: ListRequest,
+    ) -> Result<Start<R>, AllocError> {
+        match req.method().as_str() {
+            "GET" | "HEAD" => Ok(Start::Progress(Progress::Answered(list_form(
+                self.alloc, &request,
+            )))),
+            "POST" => self.take_from_page(req, LIST_ADDRESS, Purpose::List),
+            _ => self.begin(sent_by(req)),
+        }
+    }
+
+    /// What a form is that came from a page: it is refused if that was another site's. The form is opened again at this address.
+    fn take_from_page<B>(
+        &self,
+        req: &Request<B>,
+        address: &'static str,
+        purpose: Purpose,
+    ) -> Result<Start<R>, AllocError> {
+        match refuse_foreign(self.alloc, address, sender_of(req))? {
+            Some(answer) => Ok(Start::Progress(Progress::Answered(Ok(answer)))),
+            None => Ok(Start::Body(purpose, self.change_queue()?)),
         }
     }
 
@@ -179,6 +207,16 @@ impl<R: Wait + Clock + Copy + Drop> ProxyService<R> {
     fn form_of(&self, sent: SentRequest<'_>) -> Result<Option<FormPlace>, AllocError> {
         if self.shared.writes {
             form_at(self.alloc, sent.path, sent.query)
+        } else {
+            Ok(None)
+        }
+    }
+
+    /// The list that a request is for, where there are any.
+    fn list_of(&self, sent: SentRequest<'_>) -> Result<Option<ListRequest>, AllocError> {
+        if self.shared.copied.is_some() {
+            let now = self.shared.seconds();
+            list_at(self.alloc, &self.shared.tokens, now, sent.path, sent.query)
         } else {
             Ok(None)
         }
@@ -198,7 +236,7 @@ impl<R: Wait + Clock + Copy + Drop> ProxyService<R> {
             site: Arc::try_clone(&self.shared.site)?,
             known,
             changes: self.shared.writes,
-            offer: offer_at(req.uri().path()),
+            offer: offer_at(req.uri().path(), self.shared.copied.is_some()),
         })
     }
 
@@ -234,6 +272,9 @@ impl<R: Wait + Clock + Copy + Drop> ProxyService<R> {
         let sent = sent_by(req);
         if let Some(text) = self.own_text(sent)? {
             return Ok(Start::Progress(Progress::Text(text)));
+        }
+        if let Some(request) = self.list_of(sent)? {
+            return self.start_list(req, request);
         }
         match self.form_of(sent)? {
             Some(place) => self.start_form(req, place),

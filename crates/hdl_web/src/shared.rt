@@ -13,6 +13,7 @@ use crate::worker::ChangeJob;
 use crossbeam_channel::Sender;
 use futures::channel::oneshot;
 use hdl_client::{ClientFault, Reply};
+use hdl_copied::{CopiedHandles, ListedHandle};
 use hdl_forms::TokenKey;
 use hdl_msg::ResponseCode;
 use hdl_name::Name;
@@ -72,6 +73,8 @@ pub struct Shared<R> {
     pub(crate) limit: u64,
     /// Whether handles are changed.
     pub(crate) writes: bool,
+    /// The handles of a copy of the table, of which lists are made, if there is one.
+    pub(crate) copied: Option<Arc<CopiedHandles>>,
     /// With what the tokens of forms are made.
     pub(crate) tokens: TokenKey,
     /// What is kept, and replies for how many milliseconds at most, where any are.
@@ -83,6 +86,16 @@ pub struct Shared<R> {
     pub(crate) drawn: AtomicU64,
     /// Where lines of visits go, where any are written.
     pub(crate) entries: Option<Sender<AccessLogEntry>>,
+}
+
+impl<R> Shared<R> {
+    /// The handles of this prefix in canonical form that lists have.
+    pub(crate) fn listed(&self, prefix: &[u8]) -> &[ListedHandle] {
+        match &self.copied {
+            Some(copied) => copied.listed(prefix),
+            None => &[],
+        }
+    }
 }
 
 /// A question as far as what is kept answers it: the answer, or a question that no kept reply answers, its message, and which servers to ask.

@@ -54,7 +54,7 @@ pub struct ProxyWords {
     pub log: Option<String>,
     /// Whether handles are changed, by who has a key.
     pub writes: bool,
-    /// A copy of the table, from which more handles of a prefix are listed than one answer of a server says: a file's path.
+    /// A copy of the table, of which lists are made: a file's path.
     pub lists: Option<String>,
 }
 
@@ -194,7 +194,7 @@ fn writing_args<'a>(alloc: Global, command: Command<'a>) -> Result<Command<'a>, 
             alloc,
             "lists",
             "FILE",
-            "With --writes: a copy of the table (handled copy), for lists too long for one reply",
+            "With --writes: a copy of the table (handled copy), for lists in browsers and long lists",
         )
         .requires_arg("writes")?)
 }

@@ -6,11 +6,18 @@ use crate::shared::Shared;
 use bytes::Bytes;
 use crossbeam_channel::Receiver;
 use futures::channel::oneshot;
-use hdl_forms::{FilledForm, carry_form, result_page};
+use hdl_forms::{FilledForm, ListRequest, carry_form, carry_list, refused_list, result_page};
 use hdl_writes::{Order, carry_out};
 use std::alloc::Global;
 use std::sync::Wait;
 use std::time::Clock;
+
+/// The form by which an order came.
+#[derive(Drop)]
+pub(crate) enum OrderForm {
+    Change(FilledForm),
+    List(ListRequest),
+}
 
 /// An order on its way to who carries it out, the servers that have its prefix, the body of its request, the form that it came by, if it did, and where its answer goes.
 #[derive(Drop)]
@@ -18,29 +25,35 @@ pub struct ChangeJob {
     pub(crate) order: Order,
     pub(crate) turn: Vec<usize>,
     pub(crate) body: Bytes,
-    pub(crate) form: Option<FilledForm>,
+    pub(crate) form: Option<OrderForm>,
     pub(crate) answer: oneshot::Sender<AnswerResult>,
 }
 
-/// The answer to an order: a page where it came by a form.
-pub(crate) fn as_page(alloc: Global, form: Option<FilledForm>, made: AnswerResult) -> AnswerResult {
+/// The answer to an order that isn't carried out: a page where it came by a form.
+pub(crate) fn as_page(alloc: Global, form: Option<OrderForm>, made: AnswerResult) -> AnswerResult {
     match form {
-        Some(form) => result_page(alloc, &form, &made?),
         None => made,
+        Some(OrderForm::Change(form)) => result_page(alloc, &form, &made?),
+        Some(OrderForm::List(request)) => refused_list(alloc, &request, &made?),
     }
 }
 
-/// What comes of an order: a page where it came by a form, whose value must still be as the form showed it.
-fn carried<C: ChangeServers>(
-    alloc: Global,
+/// What comes of an order: a page where it came by a form. A value that is changed must still be as its form showed it.
+fn carried<R, C: ChangeServers>(
+    shared: &Shared<R>,
     change_servers: &mut C,
     order: &Order,
     body: &[u8],
-    form: Option<FilledForm>,
+    form: Option<OrderForm>,
 ) -> AnswerResult {
+    let alloc = shared.alloc;
     match form {
-        Some(form) => carry_form(alloc, change_servers, order, body, form),
         None => carry_out(alloc, change_servers, order, body),
+        Some(OrderForm::Change(form)) => carry_form(alloc, change_servers, order, body, form),
+        Some(OrderForm::List(request)) => {
+            let handles = shared.listed(order.name.prefix());
+            carry_list(alloc, change_servers, order, &request, handles)
+        }
     }
 }
 
@@ -71,7 +84,7 @@ pub(crate) fn work_on_orders<R: Wait + Clock, C: ChangeServers>(
             answer,
         } = job;
         change_servers.turn_to(turn);
-        let made = carried(shared.alloc, &mut change_servers, &order, &body, form);
+        let made = carried(shared, &mut change_servers, &order, &body, form);
         if order.changes() {
             shared.forget(&order.name);
         }

@@ -10,6 +10,7 @@ use crate::shared::{Shared, Upstream};
 use crate::standbys::{Notice, Standbys};
 use crate::worker::{ChangeJob, work, work_on_orders};
 use crossbeam_channel::{Receiver, Sender, unbounded};
+use hdl_copied::CopiedHandles;
 use hdl_forms::TokenKey;
 use hdl_proxy::Site;
 use hdl_routes::{Route, Standing};
@@ -36,6 +37,8 @@ pub struct Config {
     pub routes: Vec<Route>,
     pub limit: u64,
     pub writes: bool,
+    /// The handles of a copy of the table, of which lists are made, if there is one.
+    pub copied: Option<Arc<CopiedHandles>>,
     /// For how many milliseconds replies are kept at most; 0 keeps none.
     pub keeps: u64,
 }
@@ -175,6 +178,7 @@ where
         began: Instant::now(rt)?,
         limit: config.limit,
         writes: config.writes,
+        copied: config.copied,
         tokens: token_key(rt)?,
         cache: cache(rt, config.keeps)?,
         keeps: config.keeps,
