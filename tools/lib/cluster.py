@@ -190,7 +190,7 @@ class Server:
         with open(self.errors, "ab") as errors:
             self.process = servers.start(self.words, self.text(), 1, stderr=errors)
         if self.process is None:
-            sys.exit("a server ended: see %s" % self.errors)
+            sys.exit("a server ended at its start; its last lines: %s" % self.said()[-500:])
 
     def kill(self):
         if self.process:
