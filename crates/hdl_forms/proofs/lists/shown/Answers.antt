@@ -13,6 +13,6 @@ returns-clause-body c =
       form,
       c.in_ok-form.ensures,
       footed (markup_of templates.ListFoot) _ _ _ answer.body.items form (buttons c.args.part.now.next) c.args.handles.now c.deref.result.now c.args.part.now.found.items c.new.result.list.items
-      c.in_ok-page.ensures c.in_ok-page-2.ensures c.deref.ensures.value c.in_ok-page-3.ensures c.new.ensures e,
+          c.in_ok-page.ensures c.in_ok-page-2.ensures c.deref.ensures.value c.in_ok-page-3.ensures c.new.ensures e,
     ))
     c.answer_of.ensures.body

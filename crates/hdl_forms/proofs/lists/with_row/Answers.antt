@@ -1,7 +1,7 @@
 use Rattle.std.proofs.Common.{◌≡◌, ◌∙◌, ◌++◌, ◌∷◌, [], ap, List, ℕ}
 use Rattle.std.proofs.lemmas.Result.{IfOk-weaker}
 use Rattle.hdl_proxy.specs.Link.{path_to}
-use Rattle.hdl_forms.specs.Lists.{name_at, url_at}
+use Rattle.hdl_forms.specs.Lists.{name_at}
 use Rattle.hdl_forms.specs.Template.{filled, markup_of}
 use Rattle.hdl_forms.specs.declared.markup.Template.TheVariants as templates
 use Rattle.hdl_forms.proofs.lists.with_row.Goals as goal
