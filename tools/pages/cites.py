@@ -50,29 +50,29 @@ INPUT_LIMIT = re.compile(r"^pub const (INPUT_LIMIT): usize = ([\d_]+);$", re.MUL
 PROMISES = ("docs/PROMISES.md", "docs/CLIENT_PROMISES.md")
 NUMERALS = {"two": "2", "eight": "8", "ten": "10"}
 OPTIONS, LISTENING, LIMITS = "crates/hdl_server_options/src/commands.rt", "crates/hdl_listeners/src/listening.rt", "crates/hdl_limits/src/lib.rt"
-PROXY, GATHERING, ADVICE, REASONS = "crates/hdl_web/src/words.rt", "crates/hdl_web/src/change_requests.rt", "crates/hdl_commands/src/advice.rt", "crates/hdl_check/src/reasons.rt"
+PROXY, GATHERING, ADVICE, REASONS = "crates/hdl_web/src/options.rt", "crates/hdl_web/src/change_requests.rt", "crates/hdl_commands/src/advice.rt", "crates/hdl_tenants_check/src/reasons.rt"
 # Where a default or a limit stands in a text that a program prints, and the constant that it is.
 PRINTED = (
-    (OPTIONS, r"client waits; (\d+) by default", LISTENING, "idle"),
-    (OPTIONS, r"answers a challenge; (\d+) by default", LISTENING, "AMPLIFY"),
+    (OPTIONS, r"client waits; (\d+) by default", LISTENING, "idle_seconds"),
+    (OPTIONS, r"answers a challenge; (\d+) by default", LISTENING, "AMPLIFY_DEFAULT"),
     (OPTIONS, r"overflow lane; (\d+) by default", LISTENING, "crowd"),
     (OPTIONS, r"reads go on; (\d+) by default", LISTENING, "reserve"),
     (OPTIONS, r"read last; (\d+) by default", "crates/hdl_cachedrows/src/cached.rt", "LIMIT_DEFAULT"),
-    ("crates/hdl/src/commands.rt", r"server to ask; (\S+) by default", "crates/hdl/src/words.rt", "SERVER"),
-    (PROXY, r"listen at; may be repeated; (\S+) by default", PROXY, "LISTEN"),
-    (PROXY, r"each address; (\d+) by default", PROXY, "THREADS"),
-    (PROXY, r"asked at once; (\d+) by default", PROXY, "ASKERS"),
-    (PROXY, r"whole answer; (\d+) by default", PROXY, "TIMEOUT"),
-    (PROXY, r"every page; (\S+) by default", PROXY, "SITE"),
+    ("crates/hdl/src/commands.rt", r"server to ask; (\S+) by default", "crates/hdl/src/arguments.rt", "DEFAULT_SERVER"),
+    (PROXY, r"listen at; may be repeated; (\S+) by default", PROXY, "DEFAULT_LISTEN"),
+    (PROXY, r"each address; (\d+) by default", PROXY, "DEFAULT_THREADS"),
+    (PROXY, r"asked at once; (\d+) by default", PROXY, "DEFAULT_ASKERS"),
+    (PROXY, r"whole answer; (\d+) by default", PROXY, "DEFAULT_TIMEOUT_SECONDS"),
+    (PROXY, r"every page; (\S+) by default", PROXY, "DEFAULT_SITE"),
     (GATHERING, r"larger than (\d+) octets", GATHERING, "BODY_MOST"),
     (GATHERING, r"within (\d+) seconds", GATHERING, "BODY_SECONDS"),
     (ADVICE, r"one reply \(([\d,]+) octets\)", LIMITS, "MESSAGE_MAX"),
     (REASONS, r"the handle has ([\d,]+) values", LIMITS, "VALUES_MAX"),
     (REASONS, r"a publisher's name is 1 to (\d+)", LIMITS, "PUBLISHER_NAME_MAX"),
     (REASONS, r"LANES is a number from 2 to (\d+)", LIMITS, "LANES"),
-    ("crates/hdl_check/src/report.rt", r"of (\d+) lanes", LIMITS, "LANES"),
-    ("crates/hdl_commands/src/fresh.rt", r"a server has (\d+) lanes", LIMITS, "LANES"),
-    ("crates/hdl_commands/src/fresh.rt", r"const LANES: usize = (\d+);", LIMITS, "LANES"),
+    ("crates/hdl_tenants_check/src/report.rt", r"of (\d+) lanes", LIMITS, "LANES"),
+    ("crates/hdl_commands/src/init.rt", r"a server has (\d+) lanes", LIMITS, "LANES"),
+    ("crates/hdl_commands/src/init.rt", r"const LANES: usize = (\d+);", LIMITS, "LANES"),
     ("crates/hdl_tables/src/copying.rt", r"each of (\d+) tries", "crates/hdl_tables/src/copying.rt", "TRIES"),
     ("crates/hdl_writes/src/mint.rt", r"All (\w+) suffixes", "crates/hdl_writes/src/mint.rt", "DRAWN_MOST"),
     ("crates/hdl_writes/src/stop.rt", r"request of more than (\d+) octets", LIMITS, "MESSAGE_MAX"),

@@ -3,7 +3,7 @@
 use hdl_core::Tenants;
 use hdl_host::{Amount, Bound};
 use hdl_name::Name;
-use hdl_server_options::BoundWord;
+use hdl_server_options::BoundOption;
 use hdl_tables::{has_publisher, publisher_names};
 use std::alloc::{AllocError, AllocFailed, Global};
 use std::fmt;
@@ -84,8 +84,8 @@ fn prefix_on<'a>(line: &'a str, publisher: &str) -> Option<&'a str> {
 }
 
 /// The bound of a word, with the prefixes that the text gives to its publisher.
-fn bound_of(alloc: Global, word: BoundWord, text: &str) -> Result<Bound, AllocError> {
-    let BoundWord {
+fn bound_of(alloc: Global, word: BoundOption, text: &str) -> Result<Bound, AllocError> {
+    let BoundOption {
         publisher,
         values,
         octets,
@@ -109,7 +109,7 @@ fn bound_of(alloc: Global, word: BoundWord, text: &str) -> Result<Bound, AllocEr
 /// The bounds of the words, over an accepted text and what was read of it.
 pub fn bounds_of(
     alloc: Global,
-    words: Vec<BoundWord>,
+    words: Vec<BoundOption>,
     text: &str,
     tenants: &Tenants,
 ) -> Result<Vec<Bound>, BoundFault> {

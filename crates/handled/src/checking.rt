@@ -1,8 +1,8 @@
 //! Checking a tenants text before it is served.
 
-use crate::ports::{say_unavailable, say_unservable};
-use hdl_check::{Report, check};
+use crate::ports::{report_unavailable, report_unservable};
 use hdl_programs::{Fault, put_all, tenants_of};
+use hdl_tenants_check::{Report, check};
 use std::net::IpAddr;
 
 /// The exit status of a text with faults, as where it is served.
@@ -29,8 +29,8 @@ pub fn check_text(rt: &HostRuntime, text: &str) -> Result<u8, Fault> {
 /// Says on standard error why no server can start with an accepted text, or which ports can't be had now; answers the exit status.
 pub fn check_ports(rt: &HostRuntime, text: &str, addresses: &[IpAddr]) -> Result<u8, Fault> {
     let tenants = tenants_of(rt.alloc(), text)?;
-    if say_unservable(rt, text, &tenants) {
+    if report_unservable(rt, text, &tenants) {
         return Ok(FAULTY);
     }
-    Ok(say_unavailable(rt, rt.alloc(), &tenants, addresses)?)
+    Ok(report_unavailable(rt, rt.alloc(), &tenants, addresses)?)
 }

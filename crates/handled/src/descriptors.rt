@@ -19,7 +19,7 @@ fn limit() -> Option<u64> {
 }
 
 /// Says on standard error where the process may have fewer descriptors than are wanted.
-pub fn say_descriptors(rt: &HostRuntime, tenants: &Tenants, limits: Limits) {
+pub fn report_descriptors(rt: &HostRuntime, tenants: &Tenants, limits: Limits) {
     let wanted = descriptors_for(tenants, limits);
     if let Some(limit) = limit() {
         if limit < wanted {

@@ -3,12 +3,12 @@
 use crate::fault::ProgramFault;
 use crate::over_unserved;
 use crate::plan::UNSERVABLE;
-use crate::ports::say_empty;
+use crate::ports::report_empty;
 use crate::sharing::export_cluster;
 use crate::texts::text_of;
 use hdl_programs::{status_of_words, tenants_of};
 use hdl_server_options::{ExportOptions, ExportSource, TableFile};
-use hdl_tables::{Export, ExportText, has_named, is_new, look_at_new, not_there};
+use hdl_tables::{Export, ExportText, check_new_path, check_publisher, is_new, missing_fault};
 use std::net::{Net, TcpStream};
 use std::random::RandomSource;
 use std::rt::Clock;
@@ -23,13 +23,13 @@ fn export_file<R: Threads + Drop>(
 ) -> Result<u8, ProgramFault> {
     let path = file.path.as_str();
     if is_new(rt, path) {
-        return Err(ProgramFault::from(not_there(rt, path)));
+        return Err(ProgramFault::from(missing_fault(rt, path)));
     }
-    if say_empty(rt, text.text) {
+    if report_empty(rt, text.text) {
         return Ok(UNSERVABLE);
     }
     let tenants = tenants_of(rt.alloc(), text.text)?;
-    if !has_named(rt, &tenants, text.publisher) {
+    if !check_publisher(rt, &tenants, text.publisher) {
         return Ok(status_of_words(false));
     }
     Ok(over_unserved(machine, rt, file, Export { tenants, text })?)
@@ -45,7 +45,7 @@ pub fn export_table<
         publisher,
         to,
     } = options;
-    look_at_new(rt, &to)?;
+    check_new_path(rt, &to)?;
     let text = text_of(rt, text)?;
     let text = ExportText {
         text: text.as_str(),

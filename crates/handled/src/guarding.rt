@@ -18,7 +18,7 @@ pub struct TableGuard {
     /// When the write that is under way was begun, where the clock said it.
     begun: Option<Instant>,
     /// Whether less memory could be had than is kept aside, when that was seen last.
-    is_short: bool,
+    is_memory_short: bool,
 }
 
 impl TableGuard {
@@ -30,7 +30,7 @@ impl TableGuard {
             change: None,
             is_shared: false,
             begun: None,
-            is_short: false,
+            is_memory_short: false,
         }
     }
 
@@ -43,7 +43,7 @@ impl TableGuard {
     }
 
     /// Whether the table's file is as the server left it. What is seen is reported.
-    pub fn sees_file(&mut self) -> bool {
+    pub fn check_file(&mut self) -> bool {
         if let Some(file) = &self.file {
             self.change = file.change(&self.rt);
             self.health.note_file(self.change);
@@ -63,16 +63,16 @@ impl TableGuard {
     }
 
     /// Whether as much memory can be had as is kept aside. What is seen is reported.
-    fn sees_room(&mut self) -> bool {
+    fn check_room(&mut self) -> bool {
         let is_there = self.health.check_memory(self.rt.alloc());
-        self.is_short = !is_there;
+        self.is_memory_short = !is_there;
         is_there
     }
 }
 
 impl Guard for TableGuard {
     fn permits(&mut self, effect: Effect) -> bool {
-        let may = self.sees_file() && (effect == Effect::Frees || self.sees_room());
+        let may = self.check_file() && (effect == Effect::Frees || self.check_room());
         if may && self.file.is_some() {
             self.begun = Instant::now(&self.rt).ok();
         }
@@ -93,8 +93,8 @@ impl Guard for TableGuard {
         if fate != Fate::Deferred && !self.is_shared {
             self.health.note_write(fate == Fate::Made);
         }
-        if self.is_short {
-            self.sees_room();
+        if self.is_memory_short {
+            self.check_room();
         }
     }
 }

@@ -2,7 +2,7 @@
 //!
 //! `handled` and `handled replay` are [`hdl_replay::replay`], handed the standard streams and a table in SQL, in memory.
 //! `handled serve` is [`hdl_host::host_tenants`], handed the tenants text on standard input, or in a file, and such a table, whose handles are kept where they
-//! were read last (hdl_cachedrows). `handled check` says what such a text has, or all of its faults (hdl_check), `handled export` writes a table as such a text (hdl_export), `handled copy` and
+//! were read last (hdl_cachedrows). `handled check` says what such a text has, or all of its faults (hdl_tenants_check), `handled export` writes a table as such a text (hdl_export), `handled copy` and
 //! `handled restore` copy its file while it is served and put a copy back. With `--table FILE` both go on over the table in that file (hdl_lastingrows). What is printed, the fault lines and the exit statuses are those of docs/PROTOCOL.md, "The tenants
 //! text and scripts". The command line is hdl_server_options, and what opens, copies and exports tables hdl_tables.
 #![tactic(auto)]
@@ -30,13 +30,13 @@ use hdl_cachedrows::LIMIT_DEFAULT;
 use hdl_host::{Health, ServerConfig};
 use hdl_programs::{Fault, status_of_words};
 use hdl_server_options::{
-    BoundWord, ClusterOptions, Invocation, ServeOptions, TableFile, read_options,
+    BoundOption, ClusterOptions, Invocation, ServeOptions, TableFile, read_options,
 };
-use hdl_tables::{FileWork, TabledFault, copy_table, empty_table, over_file, restore_table};
-use monitoring::{is_one_file, reopen, say_log_taken, stop};
+use hdl_tables::{FileWork, TableRunFault, copy_table, empty_table, restore_table, run_over_file};
+use monitoring::{is_one_file, reopen, report_log_conflict, stop};
 use notices::TableNotices;
-use opening::{open_planned, place_of};
-use plan::{Plan, Planned, plan_of, setting_of};
+use opening::{open_plan_table, table_path};
+use plan::{Plan, PlanResult, plan_of, setting_of};
 use replaying::{ReadScript, replay_input};
 use serving::{serve_memory, serve_table};
 use sharing::serve_cluster;
@@ -47,11 +47,11 @@ use std::random::RandomSource;
 use std::rt::Clock;
 use std::sync::Arc;
 use std::thread::{self, Threads};
-use texts::{read_text, say_reading, text_of};
+use texts::{read_text, report_reading, text_of};
 
 /// Runs the script on standard input over a table in memory, and answers the exit status.
 fn replay_memory<R: Threads + Drop>(rt: &HostRuntime) -> Result<u8, ProgramFault> {
-    say_reading(rt);
+    report_reading(rt);
     let rows = empty_table::<R, TableNotices>(rt, 0)?;
     Ok(replay_input(rt, rows)?)
 }
@@ -70,28 +70,28 @@ fn serve_file<
         + 'static,
     P: Plan,
 >(machine: &R, rt: &HostRuntime, file: &TableFile, plan: P) -> Result<u8, ProgramFault> {
-    let table = open_planned(machine, rt, file, &plan)?;
+    let table = open_plan_table(machine, rt, file, &plan)?;
     serve_table(machine, rt, table, plan, file.path.as_str())
 }
 
 /// Where the table of a server is.
 #[derive(Drop)]
-enum Kept {
+enum TableLocation {
     Memory { row_cache: usize },
     File(TableFile),
     Cluster(ClusterOptions),
 }
 
 /// Where these options keep the table. Nobody gives both.
-fn kept_in(
+fn table_location(
     table: Option<TableFile>,
     cluster: Option<ClusterOptions>,
     row_cache: Option<usize>,
-) -> Kept {
+) -> TableLocation {
     match (table, cluster) {
-        (Some(file), _) => Kept::File(file),
-        (None, Some(cluster)) => Kept::Cluster(cluster),
-        (None, None) => Kept::Memory {
+        (Some(file), _) => TableLocation::File(file),
+        (None, Some(cluster)) => TableLocation::Cluster(cluster),
+        (None, None) => TableLocation::Memory {
             row_cache: row_cache.unwrap_or(LIMIT_DEFAULT),
         },
     }
@@ -110,14 +110,14 @@ fn serve_plan<
         + Drop
         + 'static,
     P: Plan,
->(machine: &R, rt: &HostRuntime, plan: P, kept: Kept) -> Result<u8, ProgramFault> {
+>(machine: &R, rt: &HostRuntime, plan: P, kept: TableLocation) -> Result<u8, ProgramFault> {
     match kept {
-        Kept::Memory { row_cache } => {
+        TableLocation::Memory { row_cache } => {
             let rows = empty_table::<R, TableNotices>(rt, row_cache)?;
             serve_memory(machine, rt, rows, plan, row_cache)
         }
-        Kept::File(file) => serve_file(machine, rt, &file, plan),
-        Kept::Cluster(cluster) => serve_cluster(machine, rt, cluster, plan),
+        TableLocation::File(file) => serve_file(machine, rt, &file, plan),
+        TableLocation::Cluster(cluster) => serve_cluster(machine, rt, cluster, plan),
     }
 }
 
@@ -126,8 +126,8 @@ fn plan_in(
     rt: &HostRuntime,
     path: Option<String>,
     setting: ServerConfig,
-    bounds: Vec<BoundWord>,
-) -> Result<Planned, Fault> {
+    bounds: Vec<BoundOption>,
+) -> Result<PlanResult, Fault> {
     let text = text_of(rt, path)?;
     plan_of(rt, text.as_str(), setting, bounds)
 }
@@ -149,18 +149,18 @@ fn serve<
         text,
         addresses,
         limits,
-        supervision,
+        monitoring,
         bounds,
         takes_changes,
         row_cache,
         table,
         cluster,
     } = options;
-    let setting = setting_of(rt, addresses, limits, takes_changes, supervision)?;
-    let kept = kept_in(table, cluster, row_cache);
+    let setting = setting_of(rt, addresses, limits, takes_changes, monitoring)?;
+    let kept = table_location(table, cluster, row_cache);
     match plan_in(rt, text, setting, bounds)? {
-        Planned::Plan(plan) => serve_plan(machine, rt, plan, kept),
-        Planned::Refused(status) => Ok(status),
+        PlanResult::Plan(plan) => serve_plan(machine, rt, plan, kept),
+        PlanResult::Refused(status) => Ok(status),
     }
 }
 
@@ -175,10 +175,10 @@ fn over_unserved<R: Threads + Drop, W: FileWork>(
     rt: &HostRuntime,
     file: &TableFile,
     work: W,
-) -> Result<u8, TabledFault> {
+) -> Result<u8, TableRunFault> {
     let health = health_of(rt)?;
     let notices = TableNotices::new(rt, Arc::try_clone(&health).map_err(Fault::from)?);
-    let done = over_file(machine, rt, place_of(file), notices, work);
+    let done = run_over_file(machine, rt, table_path(file), notices, work);
     health.print_due(rt);
     done
 }
@@ -238,17 +238,17 @@ fn has_thread<R: Threads>(machine: &R) -> bool {
 
 /// Says on standard error what to do about a faulty tenants text, or a machine that lacks threads. The fault line is the last one.
 fn with_advice<R: Threads>(machine: &R, rt: &HostRuntime, fault: ProgramFault) -> ProgramFault {
-    if fault.is_of_text() {
+    if fault.is_tenants_fault() {
         let _ = eprintln!(rt;
             "the tenants text is refused: `handled check < TEXT` says what is wrong in each line, and what to do"
         );
     }
-    if fault.is_of_octets() {
+    if fault.is_not_utf8() {
         let _ = eprintln!(rt;
             "the tenants text isn't UTF-8: save it as UTF-8, without a byte order mark"
         );
     }
-    if fault.is_of_machine() && !has_thread(machine) {
+    if fault.is_device_fault() && !has_thread(machine) {
         let _ = eprintln!(rt;
             "threads can't be started, and each lane needs one: raise TasksMax of the service, or `ulimit -u`"
         );
@@ -269,7 +269,7 @@ fn serve_checked<
         + Drop
         + 'static,
 >(machine: &R, rt: &HostRuntime, options: ServeOptions) -> Result<u8, ProgramFault> {
-    if say_log_taken(rt, &options) {
+    if report_log_conflict(rt, &options) {
         return Ok(status_of_words(false));
     }
     serve(machine, rt, options)

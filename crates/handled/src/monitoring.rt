@@ -10,7 +10,7 @@ use std::os::unix::net::UnixStream;
 /// The word that stands for standard error.
 const ERRORS: &str = "-";
 
-fn open_log(rt: &HostRuntime, path: &str, monitoring: &mut Monitoring) -> io::Result<()> {
+fn try_open_log(rt: &HostRuntime, path: &str, monitoring: &mut Monitoring) -> io::Result<()> {
     if path == ERRORS {
         monitoring.log = Some(Log::to_errors(rt.alloc())?);
         return Ok(());
@@ -45,8 +45,8 @@ fn option_at(rt: &HostRuntime, log: &str, options: &ServeOptions) -> Option<&'st
 }
 
 /// Says on standard error that lines of the log would be written into the file of the table or of the tenants text. Answers whether that is so.
-pub fn say_log_taken(rt: &HostRuntime, options: &ServeOptions) -> bool {
-    let Some(log) = &options.supervision.log else {
+pub fn report_log_conflict(rt: &HostRuntime, options: &ServeOptions) -> bool {
+    let Some(log) = &options.monitoring.log else {
         return false;
     };
     let Some(option) = option_at(rt, log.as_str(), options) else {
@@ -59,8 +59,8 @@ pub fn say_log_taken(rt: &HostRuntime, options: &ServeOptions) -> bool {
 }
 
 /// Opens the log of changes. What can't be opened is said on standard error.
-pub fn take_log(rt: &HostRuntime, path: &str, monitoring: &mut Monitoring) -> Result<(), Fault> {
-    match open_log(rt, path, monitoring) {
+pub fn open_log(rt: &HostRuntime, path: &str, monitoring: &mut Monitoring) -> Result<(), Fault> {
+    match try_open_log(rt, path, monitoring) {
         Ok(()) => Ok(()),
         Err(e) => {
             let _ = eprintln!(rt;
@@ -72,7 +72,7 @@ pub fn take_log(rt: &HostRuntime, path: &str, monitoring: &mut Monitoring) -> Re
 }
 
 /// Says a word, and waits until the server has ended or answered. How many octets it answered.
-fn say_at(rt: &HostRuntime, control: &str, word: &[u8]) -> io::Result<usize> {
+fn send_command(rt: &HostRuntime, control: &str, word: &[u8]) -> io::Result<usize> {
     let mut stream = UnixStream::connect(rt, control)?;
     stream.write_all(word)?;
     let mut octets = [0; 1];
@@ -84,7 +84,7 @@ fn say_at(rt: &HostRuntime, control: &str, word: &[u8]) -> io::Result<usize> {
 }
 
 /// What can be done where no server takes the word for a reason of this kind.
-fn way_on(kind: ErrorKind) -> &'static str {
+fn advice_for(kind: ErrorKind) -> &'static str {
     match kind {
         ErrorKind::PermissionDenied => {
             "only root and the server's user may: run the command as one of them"
@@ -99,17 +99,17 @@ fn way_on(kind: ErrorKind) -> &'static str {
 }
 
 /// Says on standard error that no server takes the word.
-fn say_no_server(rt: &HostRuntime, word: &str, control: &str, error: io::Error) {
-    let way = way_on(error.kind());
+fn report_no_server(rt: &HostRuntime, word: &str, control: &str, error: io::Error) {
+    let way = advice_for(error.kind());
     let _ = eprintln!(rt; "{word}: no server answers at {control}: {error}: {way}");
 }
 
 /// Ends the server that takes the word at this socket, and answers the exit status.
 pub fn stop(rt: &HostRuntime, control: &str) -> u8 {
-    match say_at(rt, control, STOP) {
+    match send_command(rt, control, STOP) {
         Ok(_) => 0,
         Err(e) => {
-            say_no_server(rt, "stop", control, e);
+            report_no_server(rt, "stop", control, e);
             Fault::Device.status()
         }
     }
@@ -117,14 +117,14 @@ pub fn stop(rt: &HostRuntime, control: &str) -> u8 {
 
 /// Has the server that takes the word at this socket open its log anew, and answers the exit status.
 pub fn reopen(rt: &HostRuntime, control: &str) -> u8 {
-    match say_at(rt, control, REOPEN) {
+    match send_command(rt, control, REOPEN) {
         Ok(0) => return 0,
         Ok(_) => {
             let _ = eprintln!(rt;
                 "reopen: the server at {control} writes its log into no file: start it with --log FILE"
             );
         }
-        Err(e) => say_no_server(rt, "reopen", control, e),
+        Err(e) => report_no_server(rt, "reopen", control, e),
     }
     Fault::Device.status()
 }

@@ -1,7 +1,7 @@
 //! What a server says on standard error: as it begins, of its table's file, and as it ends.
 
 use hdl_core::Tenants;
-use hdl_host::{AMPLIFY, Health, Limits};
+use hdl_host::{AMPLIFY_DEFAULT, Health, Limits};
 use hdl_lastingrows::Alarm;
 use hdl_programs::VERSION;
 use hdl_sqlrows::load::Progress;
@@ -12,7 +12,7 @@ use std::{fmt, thread};
 
 /// Where the table is.
 #[derive(Clone, Copy)]
-pub enum Notice<'a> {
+pub enum TableDescription<'a> {
     /// In memory alone; the handles that were read last may take `row_cache` octets.
     Memory { row_cache: usize },
     /// In the file at this path.
@@ -21,34 +21,40 @@ pub enum Notice<'a> {
     Cluster(&'a str),
 }
 
-impl fmt::Display for Notice<'_> {
+impl fmt::Display for TableDescription<'_> {
     fn fmt<W: fmt::Write>(&self, f: &mut fmt::Formatter<W>) -> fmt::Result {
         match self {
-            Notice::Memory { row_cache } => write!(f, "memory, row cache {row_cache} octets"),
-            Notice::File {
+            TableDescription::Memory { row_cache } => write!(
+                f,
+                "memory, row cache {row_cache} octets"
+            ),
+            TableDescription::File {
                 path,
                 takes_changes: true,
             } => write!(f, "{path}"),
-            Notice::File { path, .. } => write!(f, "{path}, read-only: changes are answered 5"),
-            Notice::Cluster(name) => write!(f, "cluster {name}"),
+            TableDescription::File { path, .. } => write!(
+                f,
+                "{path}, read-only: changes are answered 5"
+            ),
+            TableDescription::Cluster(name) => write!(f, "cluster {name}"),
         }
     }
 }
 
 /// What a server begins with.
 #[derive(Clone, Copy)]
-struct Beginning<'a> {
+struct Startup<'a> {
     publishers: usize,
     lanes: u16,
-    kept: Notice<'a>,
+    kept: TableDescription<'a>,
     limits: Limits,
 }
 
-impl fmt::Display for Beginning<'_> {
+impl fmt::Display for Startup<'_> {
     fn fmt<W: fmt::Write>(&self, f: &mut fmt::Formatter<W>) -> fmt::Result {
         let Limits {
             turns,
-            idle,
+            idle_seconds,
             crowd,
             amplify,
             reserve,
@@ -58,10 +64,10 @@ impl fmt::Display for Beginning<'_> {
             "publishers {}, lanes {}, table in {}",
             self.publishers, self.lanes, self.kept
         )?;
-        write!(f, ", idle {idle} seconds, crowd {crowd}, amplify ")?;
+        write!(f, ", idle {idle_seconds} seconds, crowd {crowd}, amplify ")?;
         match amplify {
             Some(times) => write!(f, "{times}")?,
-            None => write!(f, "{AMPLIFY} beyond loopback")?,
+            None => write!(f, "{AMPLIFY_DEFAULT} beyond loopback")?,
         }
         write!(f, ", reserve {reserve} octets")?;
         if turns < u64::MAX {
@@ -72,34 +78,34 @@ impl fmt::Display for Beginning<'_> {
 }
 
 /// What is said once the server listens: which program, over which table, for which, and within which limits.
-pub fn begins_line(
+pub fn startup_line_of(
     rt: &HostRuntime,
     tenants: &Tenants,
-    kept: Notice<'_>,
+    kept: TableDescription<'_>,
     limits: Limits,
 ) -> Result<String, AllocError> {
-    let beginning = Beginning {
+    let startup = Startup {
         publishers: tenants.publishers(),
         lanes: tenants.lanes(),
         kept,
         limits,
     };
-    format!(in rt.alloc(); "handled {VERSION}: begins: {beginning}\n")
+    format!(in rt.alloc(); "handled {VERSION}: begins: {startup}\n")
 }
 
 /// How often it is looked whether the last line was said, and for how many milliseconds each time.
-const LOOKS: u32 = 100;
+const CHECKS_MOST: u32 = 100;
 
-const LOOK: u64 = 20;
+const CHECK_MILLIS: u64 = 20;
 
 /// Has it said that the server ends, and why. If no one reads standard error, it waits two seconds.
-pub fn say_ends(rt: &HostRuntime, health: &Health, was_asked: bool) {
+pub fn report_end(rt: &HostRuntime, health: &Health, was_asked: bool) {
     health.end(was_asked);
-    for _ in 0..LOOKS {
+    for _ in 0..CHECKS_MOST {
         if !health.has_due() {
             break;
         }
-        thread::sleep(rt, Duration::from_millis(LOOK));
+        thread::sleep(rt, Duration::from_millis(CHECK_MILLIS));
     }
 }
 

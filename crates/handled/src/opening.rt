@@ -3,13 +3,13 @@
 use crate::fault::ProgramFault;
 use crate::notices::TableNotices;
 use crate::plan::Plan;
-use crate::ports::{can_listen, can_take_words};
+use crate::ports::{try_control_socket, try_listeners};
 use hdl_core::Tenants;
 use hdl_host::{HostFault, ServerConfig};
 use hdl_lastingrows::TableFault;
 use hdl_server_options::TableFile;
 use hdl_tables::{
-    Closing, LogState, Note, Table, TablePath, TabledFault, is_new, log_state, not_there,
+    Closing, LogNote, LogState, Table, TablePath, TableRunFault, is_new, log_state, missing_fault,
     open_served,
 };
 use std::net::{Net, TcpListener, TcpStream};
@@ -25,20 +25,20 @@ fn try_sockets(
 ) -> Result<(), HostFault> {
     if is_new(rt, file.path.as_str()) {
         let addresses = setting.addresses.as_slice();
-        can_listen(
+        try_listeners(
             rt,
             rt.alloc(),
             tenants,
             addresses,
             setting.monitoring.status,
         )?;
-        can_take_words(rt, &setting.monitoring.control)?;
+        try_control_socket(rt, &setting.monitoring.control)?;
     }
     Ok(())
 }
 
 /// Where the file of the table is, and how it is opened.
-pub fn place_of(file: &TableFile) -> TablePath<'_> {
+pub fn table_path(file: &TableFile) -> TablePath<'_> {
     TablePath {
         path: file.path.as_str(),
         has_sums: file.has_sums,
@@ -60,21 +60,21 @@ fn open_once<R: Threads + Drop, P: Plan>(
     plan: &P,
 ) -> Result<Table<R, TableNotices>, ProgramFault> {
     let notices = notices_of(rt, plan.setting())?;
-    let place = place_of(file);
-    Ok(open_served(machine, rt, place, plan.tenants(), notices, true)?)
+    let table_path = table_path(file);
+    Ok(open_served(machine, rt, table_path, plan.tenants(), notices, true)?)
 }
 
 /// Says that the file has no note of its log.
-fn say_no_note(rt: &HostRuntime) {
+fn report_missing_note(rt: &HostRuntime) {
     let _ = eprintln!(rt;
         "table: the file has no note of its log, as earlier versions left it: this start can't tell whether one is missing, and later ones can"
     );
 }
 
 /// Moves the log into the file. Where there is no room for that the log stays beside it, which is said.
-fn move_log<T: Closing>(rt: &HostRuntime, table: T) -> Result<(), TabledFault> {
-    match table.close(rt, Note::Served) {
-        Err(TabledFault::Table(TableFault::Full)) => {
+fn checkpoint<T: Closing>(rt: &HostRuntime, table: T) -> Result<(), TableRunFault> {
+    match table.close(rt, LogNote::Served) {
+        Err(TableRunFault::Table(TableFault::Full)) => {
             let _ = eprintln!(rt;
                 "table: disk full: the log isn't moved into the file, and stays beside it: make room"
             );
@@ -85,7 +85,7 @@ fn move_log<T: Closing>(rt: &HostRuntime, table: T) -> Result<(), TabledFault> {
 }
 
 /// The table in the file that this plan serves. What its log had is moved into the file, behind a first open that finds both sound.
-pub fn open_planned<
+pub fn open_plan_table<
     R: Net<Listener = TcpListener, Stream = TcpStream> + Threads + Copy + Drop,
     P: Plan,
 >(
@@ -97,16 +97,16 @@ pub fn open_planned<
     let path = file.path.as_str();
     if !plan.setting().takes_changes && is_new(rt, path) {
         // a new table would be empty, and a standby would say that no handle is there
-        return Err(ProgramFault::from(not_there(rt, path)));
+        return Err(ProgramFault::from(missing_fault(rt, path)));
     }
     try_sockets(rt, file, plan.tenants(), plan.setting())?;
     let state = log_state(rt, path)?;
     let table = open_once(*machine, rt, file, plan)?;
     match state {
         LogState::Settled => return Ok(table),
-        LogState::Unnoted => say_no_note(rt),
+        LogState::Unnoted => report_missing_note(rt),
         LogState::Used => {}
     }
-    move_log(rt, table)?;
+    checkpoint(rt, table)?;
     open_once(*machine, rt, file, plan)
 }

@@ -1,12 +1,12 @@
 //! Which tenants the program serves, and in which setting.
 
 use crate::bounds::bounds_of;
-use crate::monitoring::take_log;
-use crate::ports::say_unservable;
+use crate::monitoring::open_log;
+use crate::ports::report_unservable;
 use hdl_core::Tenants;
 use hdl_host::{Health, Limits, Monitoring, ServerConfig, notices_of};
 use hdl_programs::{Fault, tenants_of};
-use hdl_server_options::{BoundWord, LimitOptions, SupervisionOptions};
+use hdl_server_options::{BoundOption, LimitOptions, MonitoringOptions};
 use std::net::IpAddr;
 use std::sync::Arc;
 
@@ -48,7 +48,7 @@ impl Plan for TextPlan {
 
 /// What becomes of a text and the words of bounds.
 #[derive(Drop)]
-pub enum Planned {
+pub enum PlanResult {
     Plan(TextPlan),
     /// A word is no bound of the text, which was said: the exit status.
     Refused(u8),
@@ -58,7 +58,7 @@ pub enum Planned {
 fn limits_of(options: LimitOptions) -> Limits {
     Limits {
         turns: options.turns.unwrap_or(Limits::DEFAULT.turns),
-        idle: options.idle.unwrap_or(Limits::DEFAULT.idle),
+        idle_seconds: options.idle_seconds.unwrap_or(Limits::DEFAULT.idle_seconds),
         amplify: options.amplify,
         crowd: options.crowd.unwrap_or(Limits::DEFAULT.crowd),
         reserve: options.reserve.unwrap_or(Limits::DEFAULT.reserve),
@@ -68,10 +68,10 @@ fn limits_of(options: LimitOptions) -> Limits {
 /// What the server tells of itself, and how it takes the word to end.
 fn monitoring_of(
     rt: &HostRuntime,
-    options: SupervisionOptions,
+    options: MonitoringOptions,
     reserve: usize,
 ) -> Result<Monitoring, Fault> {
-    let SupervisionOptions {
+    let MonitoringOptions {
         log,
         status,
         control,
@@ -83,7 +83,7 @@ fn monitoring_of(
     monitoring.control = control;
     monitoring.proxied = proxied;
     if let Some(path) = log {
-        take_log(rt, path.as_str(), &mut monitoring)?;
+        open_log(rt, path.as_str(), &mut monitoring)?;
     }
     Ok(monitoring)
 }
@@ -94,10 +94,10 @@ pub fn setting_of(
     addresses: Vec<IpAddr>,
     limits: LimitOptions,
     takes_changes: bool,
-    supervision: SupervisionOptions,
+    monitoring: MonitoringOptions,
 ) -> Result<ServerConfig, Fault> {
     let limits = limits_of(limits);
-    let monitoring = monitoring_of(rt, supervision, limits.reserve)?;
+    let monitoring = monitoring_of(rt, monitoring, limits.reserve)?;
     Ok(ServerConfig {
         addresses,
         limits,
@@ -112,23 +112,23 @@ pub fn plan_of(
     rt: &HostRuntime,
     text: &str,
     setting: ServerConfig,
-    words: Vec<BoundWord>,
-) -> Result<Planned, Fault> {
+    words: Vec<BoundOption>,
+) -> Result<PlanResult, Fault> {
     let mut setting = setting;
     let tenants = tenants_of(rt.alloc(), text)?;
-    if say_unservable(rt, text, &tenants) {
-        return Ok(Planned::Refused(UNSERVABLE));
+    if report_unservable(rt, text, &tenants) {
+        return Ok(PlanResult::Refused(UNSERVABLE));
     }
     match bounds_of(rt.alloc(), words, text, &tenants) {
         Ok(bounds) => {
             let notices = notices_of(rt.alloc(), bounds.as_slice())?;
             setting.monitoring.bounds = Arc::new(rt.alloc(), notices)?;
             setting.bounds = bounds;
-            Ok(Planned::Plan(TextPlan { tenants, setting }))
+            Ok(PlanResult::Plan(TextPlan { tenants, setting }))
         }
         Err(fault) => {
             let _ = eprintln!(rt; "{fault}");
-            Ok(Planned::Refused(fault.status()))
+            Ok(PlanResult::Refused(fault.status()))
         }
     }
 }

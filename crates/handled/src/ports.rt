@@ -11,7 +11,7 @@ use std::os::unix::net::{UnixListener, UnixStream};
 
 /// Opens each publisher's port at each of these addresses, by TCP and UDP, and that of the status page, if there is one, and closes all of them: the
 /// fault with which a server would end that opened them now.
-pub fn can_listen<R: Net<Listener = TcpListener, Stream = TcpStream>>(
+pub fn try_listeners<R: Net<Listener = TcpListener, Stream = TcpStream>>(
     rt: &R,
     alloc: Global,
     tenants: &Tenants,
@@ -62,7 +62,7 @@ fn try_path(rt: &HostRuntime, path: &str) -> io::Result<()> {
 }
 
 /// Makes the socket at which a server takes words, if one is named, and takes it away: the fault with which a server would end that made it now.
-pub fn can_take_words(rt: &HostRuntime, control: &Option<String>) -> Result<(), HostFault> {
+pub fn try_control_socket(rt: &HostRuntime, control: &Option<String>) -> Result<(), HostFault> {
     let Some(path) = control else {
         return Ok(());
     };
@@ -85,7 +85,7 @@ fn earlier_at(tenants: &Tenants, place: usize, port: u16) -> Option<&str> {
 }
 
 /// Says on standard error which publishers have one port; whether some have.
-fn say_shared(rt: &HostRuntime, tenants: &Tenants) -> bool {
+fn report_shared_ports(rt: &HostRuntime, tenants: &Tenants) -> bool {
     let mut is_shared = false;
     for place in 0..tenants.publishers() {
         let Some((name, _, port)) = tenants.publisher(place) else {
@@ -102,7 +102,7 @@ fn say_shared(rt: &HostRuntime, tenants: &Tenants) -> bool {
 }
 
 /// Says on standard error that a text is empty, if it is, as a command's input is that was given none. Answers whether that is so.
-pub fn say_empty(rt: &HostRuntime, text: &str) -> bool {
+pub fn report_empty(rt: &HostRuntime, text: &str) -> bool {
     if !text.is_empty() {
         return false;
     }
@@ -113,11 +113,11 @@ pub fn say_empty(rt: &HostRuntime, text: &str) -> bool {
 }
 
 /// Says on standard error why no server can start with the tenants of this text: there is no publisher, or some have one port. Answers whether that is so.
-pub fn say_unservable(rt: &HostRuntime, text: &str, tenants: &Tenants) -> bool {
+pub fn report_unservable(rt: &HostRuntime, text: &str, tenants: &Tenants) -> bool {
     if tenants.publishers() > 0 {
-        return say_shared(rt, tenants);
+        return report_shared_ports(rt, tenants);
     }
-    if say_empty(rt, text) {
+    if report_empty(rt, text) {
         return true;
     }
     let _ = eprintln!(rt;
@@ -156,8 +156,8 @@ fn is_of_address(kind: ErrorKind) -> bool {
     matches!(kind, ErrorKind::AddrNotAvailable | ErrorKind::Unsupported)
 }
 
-/// Says on standard error which ports of the publishers can't be had at this address now; answers the exit status, as [`say_unavailable`] does.
-fn say_unavailable_at(
+/// Says on standard error which ports of the publishers can't be had at this address now; answers the exit status, as [`report_unavailable`] does.
+fn report_unavailable_at(
     rt: &HostRuntime,
     alloc: Global,
     tenants: &Tenants,
@@ -187,7 +187,7 @@ fn say_unavailable_at(
 
 /// Says on standard error which ports of the publishers can't be had at these addresses now, once of an address at which none can. Answers the exit status: 0 if
 /// each can be had once it isn't taken, or else that of a start.
-pub fn say_unavailable(
+pub fn report_unavailable(
     rt: &HostRuntime,
     alloc: Global,
     tenants: &Tenants,
@@ -195,7 +195,7 @@ pub fn say_unavailable(
 ) -> Result<u8, AllocError> {
     let mut status = 0;
     for address in addresses {
-        status = say_unavailable_at(rt, alloc, tenants, *address)?.max(status);
+        status = report_unavailable_at(rt, alloc, tenants, *address)?.max(status);
     }
     Ok(status)
 }

@@ -9,7 +9,7 @@ use hdl_events::Event;
 use hdl_host::Notices;
 use hdl_programs::{Fault, put_all, tenants_of};
 use hdl_replay::{events_of, lines_of_resumed, parts_of, replay};
-use hdl_tables::{Closing, FileWork, Note, TabledFault};
+use hdl_tables::{Closing, FileWork, LogNote, TableRunFault};
 use std::sync::Arc;
 
 /// A table without bounds, in the type of a served table, which has its publishers' bounds.
@@ -62,12 +62,16 @@ impl FileWork for ReadScript {
     }
 
     /// Runs the events, and prints the outcomes.
-    fn run<T: Owing + Closing + Drop>(self, rt: &HostRuntime, table: T) -> Result<u8, TabledFault> {
+    fn run<T: Owing + Closing + Drop>(
+        self,
+        rt: &HostRuntime,
+        table: T,
+    ) -> Result<u8, TableRunFault> {
         let ReadScript { tenants, events } = self;
         let rows = without_bounds(rt, table)?;
         let (lines, rows) = lines_of_resumed(rt.alloc(), rows, tenants, events)?;
         put_all(&mut rt.stdout(), lines.as_bytes())?;
-        rows.into_rows().close(rt, Note::Kept)?;
+        rows.into_rows().close(rt, LogNote::Kept)?;
         Ok(0)
     }
 }

@@ -3,16 +3,16 @@
 ghost use Rattle.std.specs.Prelude.{◌≡◌};
 ghost use Rattle.hdl_rows.specs.Table.{no_rows};
 
-use crate::descriptors::say_descriptors;
+use crate::descriptors::report_descriptors;
 use crate::fault::ProgramFault;
 use crate::guarding::TableGuard;
-use crate::notices::{Notice, begins_line, say_ends};
+use crate::notices::{TableDescription, report_end, startup_line_of};
 use crate::plan::Plan;
 use hdl_core::Owing;
 use hdl_guardedrows::GuardedRows;
 use hdl_host::{FileWatch, Health, ServerConfig, ShutdownFlag, host_resumed, host_tenants};
 use hdl_programs::Fault;
-use hdl_tables::{Closing, Note, TabledFault};
+use hdl_tables::{Closing, LogNote, TableRunFault};
 use std::fs::Files;
 use std::net::{Net, TcpListener, TcpStream};
 use std::random::RandomSource;
@@ -48,10 +48,10 @@ fn watch(rt: &HostRuntime, path: &str) -> Result<Option<FileWatch>, Fault> {
 fn close_guarded<T: Owing + Closing + Drop>(
     rt: &HostRuntime,
     rows: GuardedRows<T, TableGuard>,
-) -> Result<(), TabledFault> {
+) -> Result<(), TableRunFault> {
     let (table, mut guard) = rows.into_parts();
-    if guard.sees_file() {
-        table.close(rt, Note::Served)
+    if guard.check_file() {
+        table.close(rt, LogNote::Served)
     } else {
         Ok(())
     }
@@ -75,18 +75,18 @@ pub fn serve_memory<
     requires empty { T.content rows ≡ no_rows }
 {
     let limits = plan.setting().limits;
-    say_descriptors(rt, plan.tenants(), limits);
-    let kept = Notice::Memory { row_cache };
-    let begins = begins_line(rt, plan.tenants(), kept, limits).map_err(Fault::from)?;
+    report_descriptors(rt, plan.tenants(), limits);
+    let kept = TableDescription::Memory { row_cache };
+    let startup_line = startup_line_of(rt, plan.tenants(), kept, limits).map_err(Fault::from)?;
     let mut output = rt.stdout();
     let shutdown = shutdown_of(plan.setting())?;
     let health = health_of(plan.setting())?;
     let guard = guard_of(rt, plan.setting(), None)?;
     let (tenants, mut setting) = plan.into_parts();
-    setting.monitoring.begins = begins;
+    setting.monitoring.startup_line = startup_line;
     let rows = GuardedRows::new(rows, guard);
     host_tenants(machine, rt.alloc(), rows, tenants, setting, &mut output)?;
-    say_ends(rt, &health, shutdown.is_requested());
+    report_end(rt, &health, shutdown.is_requested());
     Ok(0)
 }
 
@@ -106,22 +106,22 @@ pub fn serve_table<
     P: Plan,
 >(machine: &R, rt: &HostRuntime, table: T, plan: P, path: &str) -> Result<u8, ProgramFault> {
     let limits = plan.setting().limits;
-    say_descriptors(rt, plan.tenants(), limits);
-    let kept = Notice::File {
+    report_descriptors(rt, plan.tenants(), limits);
+    let kept = TableDescription::File {
         path,
         takes_changes: plan.setting().takes_changes,
     };
-    let begins = begins_line(rt, plan.tenants(), kept, limits).map_err(Fault::from)?;
+    let startup_line = startup_line_of(rt, plan.tenants(), kept, limits).map_err(Fault::from)?;
     let mut output = rt.stdout();
     let shutdown = shutdown_of(plan.setting())?;
     let health = health_of(plan.setting())?;
     let guard = guard_of(rt, plan.setting(), watch(rt, path)?)?;
     let (tenants, mut setting) = plan.into_parts();
-    setting.monitoring.begins = begins;
+    setting.monitoring.startup_line = startup_line;
     setting.monitoring.file = watch(rt, path)?;
     let rows = GuardedRows::new(table, guard);
     let rows = host_resumed(machine, rt.alloc(), rows, tenants, setting, &mut output)?;
     close_guarded(rt, rows)?;
-    say_ends(rt, &health, shutdown.is_requested());
+    report_end(rt, &health, shutdown.is_requested());
     Ok(0)
 }

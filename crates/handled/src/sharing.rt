@@ -1,12 +1,12 @@
 //! Serving over a table that other servers have too.
 
-use crate::descriptors::say_descriptors;
+use crate::descriptors::report_descriptors;
 use crate::fault::ProgramFault;
 use crate::guarding::TableGuard;
 use crate::health_of as new_health;
-use crate::notices::{Notice, TableNotices, begins_line, say_ends};
+use crate::notices::{TableDescription, TableNotices, report_end, startup_line_of};
 use crate::plan::{Plan, UNSERVABLE};
-use crate::ports::say_empty;
+use crate::ports::report_empty;
 use crate::serving::{health_of, shutdown_of};
 use hdl_core::Tenants;
 use hdl_guardedrows::GuardedRows;
@@ -14,7 +14,7 @@ use hdl_host::{Sharing, host_shared, read_shared};
 use hdl_programs::{Fault, status_of_words, tenants_of};
 use hdl_server_options::ClusterOptions;
 use hdl_shared::{Beside, SharedRows, Standing, prepare};
-use hdl_tables::{ExportText, has_named};
+use hdl_tables::{ExportText, check_publisher};
 use std::alloc::AllocError;
 use std::fs::Files;
 use std::net::{Net, TcpListener, TcpStream};
@@ -65,9 +65,9 @@ pub fn serve_cluster<
     P: Plan,
 >(machine: &R, rt: &HostRuntime, cluster: ClusterOptions, plan: P) -> Result<u8, ProgramFault> {
     let limits = plan.setting().limits;
-    say_descriptors(rt, plan.tenants(), limits);
-    let kept = Notice::Cluster(cluster.name.as_str());
-    let begins = begins_line(rt, plan.tenants(), kept, limits).map_err(Fault::from)?;
+    report_descriptors(rt, plan.tenants(), limits);
+    let kept = TableDescription::Cluster(cluster.name.as_str());
+    let startup_line = startup_line_of(rt, plan.tenants(), kept, limits).map_err(Fault::from)?;
     let mut output = rt.stdout();
     let shutdown = shutdown_of(plan.setting())?;
     let health = health_of(plan.setting())?;
@@ -76,7 +76,7 @@ pub fn serve_cluster<
     let notices = TableNotices::new(rt, health_of(plan.setting())?);
     let Beside { rows, news, keeper } = beside_of(machine, rt, cluster, &standing, notices)?;
     let (tenants, mut setting) = plan.into_parts();
-    setting.monitoring.begins = begins;
+    setting.monitoring.startup_line = startup_line;
     setting.monitoring.beside = Some(Arc::try_clone(&standing).map_err(Fault::from)?);
     let rows = GuardedRows::new(rows, guard);
     let theirs = Arc::try_clone(&standing).map_err(Fault::from)?;
@@ -97,7 +97,7 @@ pub fn serve_cluster<
         let _ = eprintln!(rt; "cluster: the server has parted from the others: start it anew");
         return Ok(PARTED);
     }
-    say_ends(rt, &health, shutdown.is_requested());
+    report_end(rt, &health, shutdown.is_requested());
     Ok(0)
 }
 
@@ -128,11 +128,11 @@ pub fn export_cluster<R: Net<Stream = TcpStream> + Clock + Eprint + RandomSource
     cluster: ClusterOptions,
     text: ExportText<'_>,
 ) -> Result<u8, ProgramFault> {
-    if say_empty(rt, text.text) {
+    if report_empty(rt, text.text) {
         return Ok(UNSERVABLE);
     }
     let tenants = tenants_of(rt.alloc(), text.text)?;
-    if !has_named(rt, &tenants, text.publisher) {
+    if !check_publisher(rt, &tenants, text.publisher) {
         return Ok(status_of_words(false));
     }
     let (mut rows, changes) = read_cluster(machine, rt, cluster, tenants)?;

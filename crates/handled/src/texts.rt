@@ -17,7 +17,7 @@ fn text_in(octets: Vec<u8>) -> Result<String, Fault> {
 }
 
 /// Says on standard error that input is read, if someone has to type it.
-pub fn say_reading(rt: &HostRuntime) {
+pub fn report_reading(rt: &HostRuntime) {
     if rt.stdin().is_terminal() {
         let _ = eprintln!(rt;
             "handled: standard input is read: end the command with < FILE, or see handled --help"
@@ -27,7 +27,7 @@ pub fn say_reading(rt: &HostRuntime) {
 
 /// The whole input as a text.
 pub fn read_text(rt: &HostRuntime) -> Result<String, Fault> {
-    say_reading(rt);
+    report_reading(rt);
     text_in(read_input(rt.alloc(), &mut rt.stdin())?)
 }
 

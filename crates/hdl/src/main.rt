@@ -17,21 +17,21 @@
 //! and what it shows is what came. `./hdl proxy` is a program of its own, `hdl_web`.
 #![tactic(auto)]
 
+mod arguments;
 mod commands;
-mod words;
 
+use arguments::{Invocation, read_arguments};
 use hdl_commands::{
-    BatchFault, Printout, ask_site, explain, export_values, fresh_secret, import_file, make_site,
-    replace_urls, run_batch_text, run_question, show_site, tenants_faults, write_fresh_tenants,
+    BatchFault, Printout, ask_site, explain, export_values, import_file, make_site, random_secret,
+    replace_urls, run_batch_text, run_request, show_site, tenants_faults, write_initial_tenants,
     write_script, write_tenants,
 };
 use hdl_value::Wire;
 use std::io::{self, ErrorKind, IsTerminal, Read};
 use std::process::ExitCode;
-use words::{Invocation, read_words};
 
 /// Says on standard error that input is read, if someone has to type it.
-fn say_reading(rt: &HostRuntime) {
+fn report_reading(rt: &HostRuntime) {
     if rt.stdin().is_terminal() {
         let _ = eprintln!(rt;
             "hdl: standard input is read: type lines, and Ctrl-D at the end, or end the command with < FILE"
@@ -41,7 +41,7 @@ fn say_reading(rt: &HostRuntime) {
 
 /// Explains the lines of standard input.
 fn explain_all(rt: &HostRuntime, wire: Wire, shows_keys: bool) -> io::Result<()> {
-    say_reading(rt);
+    report_reading(rt);
     let mut line = String::new(rt.alloc());
     for _ in 0..u64::MAX {
         line.clear();
@@ -57,7 +57,7 @@ fn explain_all(rt: &HostRuntime, wire: Wire, shows_keys: bool) -> io::Result<()>
 
 /// All of standard input.
 fn text_of(rt: &HostRuntime) -> io::Result<String> {
-    say_reading(rt);
+    report_reading(rt);
     let mut text = String::new(rt.alloc());
     rt.stdin().read_to_string(&mut text)?;
     Ok(text)
@@ -116,7 +116,7 @@ const NEXT: &str = "\
 const HANDLE_NET: &str = "hdl: each command that asks this service needs --handle-net\n";
 
 fn init(rt: &HostRuntime, wire: Wire, prefixes: &[String]) -> io::Result<u8> {
-    let status = print_made(rt, write_fresh_tenants(rt, wire, prefixes))?;
+    let status = print_made(rt, write_initial_tenants(rt, wire, prefixes))?;
     if status == 0 {
         let _ = eprint!(rt; "{NEXT}");
         if wire == Wire::HandleNet {
@@ -127,7 +127,7 @@ fn init(rt: &HostRuntime, wire: Wire, prefixes: &[String]) -> io::Result<u8> {
 }
 
 fn key(rt: &HostRuntime) -> io::Result<u8> {
-    let line = match fresh_secret(rt) {
+    let line = match random_secret(rt) {
         Ok(secret) => Ok(format!(in rt.alloc(); "{secret}\n")?),
         Err(fault) => Err(fault),
     };
@@ -136,17 +136,17 @@ fn key(rt: &HostRuntime) -> io::Result<u8> {
 
 /// Does what the command line asks for, and answers the exit status.
 fn run(rt: &HostRuntime) -> io::Result<u8> {
-    match read_words(rt) {
+    match read_arguments(rt) {
         Invocation::Explain { wire, shows_keys } => {
             explain_all(rt, wire, shows_keys)?;
             Ok(0)
         }
-        Invocation::Ask(question) => Ok(run_question(rt, &question)),
+        Invocation::Ask(question) => Ok(run_request(rt, &question)),
         Invocation::Batch { server, wire } => batch_all(rt, &server, wire),
         Invocation::Import(import) => Ok(import_file(rt, &import)),
         Invocation::Replace(replacement) => Ok(replace_urls(rt, &replacement)),
         Invocation::Export { table, shows_keys } => {
-            say_reading(rt);
+            report_reading(rt);
             Ok(export_values(rt, table, shows_keys))
         }
         Invocation::Script => script_all(rt),
@@ -161,7 +161,7 @@ fn run(rt: &HostRuntime) -> io::Result<u8> {
 }
 
 /// What to do about a fault of standard input or output.
-fn way_on(kind: ErrorKind) -> &'static str {
+fn advice_for(kind: ErrorKind) -> &'static str {
     match kind {
         ErrorKind::InvalidData => ": save the text on standard input as UTF-8",
         ErrorKind::StorageFull => ": make room on the disk that standard output goes to",
@@ -173,7 +173,7 @@ fn main(rt: HostRuntime) -> ExitCode {
     match run(&rt) {
         Ok(status) => ExitCode::from(status),
         Err(fault) => {
-            let way = way_on(fault.kind());
+            let way = advice_for(fault.kind());
             let _ = eprintln!(rt; "hdl: {fault}{way}");
             ExitCode::from(1)
         }

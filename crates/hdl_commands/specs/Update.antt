@@ -12,7 +12,7 @@ use Rattle.hdl_client.specs.Told.{Run, AsksForOne}
 use Rattle.hdl_client.specs.declared.challenge.Key.{Key}
 use Rattle.hdl_client.specs.declared.task.Task.{Task}
 use Rattle.hdl_client.specs.declared.transport.Transport.{Ghosts}
-use Rattle.hdl_commands.specs.declared.imports.update.Kept.{Kept}
+use Rattle.hdl_commands.specs.declared.imports.update.KeptFields.{KeptFields}
 
 -- ---- what is asked first
 
@@ -31,7 +31,7 @@ pub record OnlyReads {T : Type 0} (g : Ghosts T) (keys : List Key) (before after
 -- ---- what is wanted
 
 -- a value as it is meant beside the one that is there: what no column of the file says stays
-abbrev pub meant_by : Kept → Option Value → Value → Value
+abbrev pub meant_by : KeptFields → Option Value → Value → Value
 meant_by kept None w = w
 meant_by kept (Some v) w = record w { ttl = if kept.ttl then v.ttl else w.ttl; permissions = if kept.permissions then v.permissions else w.permissions }
 
@@ -39,7 +39,7 @@ meant_by kept (Some v) w = record w { ttl = if kept.ttl then v.ttl else w.ttl; p
 abbrev pub value_at : ℕ → List Value → Option Value
 value_at index vs = find (λ v. v.index == index) vs
 
-abbrev pub meant : Kept → List Value → Value → Value
+abbrev pub meant : KeptFields → List Value → Value → Value
 meant kept there w = meant_by kept (value_at w.index there) w
 
 -- ---- what is sent

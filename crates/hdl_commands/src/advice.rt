@@ -46,7 +46,7 @@ pub(crate) fn asked_by(task: &Task, keys: KeyWords) -> Option<Asked<'_>> {
 }
 
 /// What to do if one reply can't say all that was asked for.
-fn way_to_the_rest(operation: OpCode) -> &'static str {
+fn advice_on_rest(operation: OpCode) -> &'static str {
     match operation {
         OpCode::ListHandles => {
             ": more handles than fit into one reply (65,536 octets). The server's operator can list all: `handled copy --table FILE --to COPY`, then `handled export --table COPY < TENANTS`"
@@ -69,7 +69,7 @@ fn advice_on_handle(operation: OpCode) -> &'static str {
 }
 
 /// What to do if a handle has no such value.
-fn way_to_value(operation: OpCode) -> &'static str {
+fn advice_on_value(operation: OpCode) -> &'static str {
     match operation {
         OpCode::ModifyValue => {
             ": resolve the handle; a value with a new index is added by `hdl add`"
@@ -82,7 +82,7 @@ fn way_to_value(operation: OpCode) -> &'static str {
 }
 
 /// What to do if a server can't read a request whose values have a layout.
-fn way_to_a_layout(operation: OpCode) -> &'static str {
+fn advice_on_layout(operation: OpCode) -> &'static str {
     if takes_values(operation) {
         ": the port may have the other layout of values: add --handle-net if its line ends with handle-net, or else leave it out"
     } else {
@@ -91,7 +91,7 @@ fn way_to_a_layout(operation: OpCode) -> &'static str {
 }
 
 /// What to do about a change that is denied: a server denies all that it takes, or what would make or end a handle under 0.NA.
-fn way_to_change(operation: OpCode) -> &'static str {
+fn advice_on_change(operation: OpCode) -> &'static str {
     match operation {
         OpCode::CreateHandle | OpCode::DeleteHandle => {
             ": a server with --read-only takes no changes: name the one that does by --server. No server creates or deletes a handle under 0.NA"
@@ -104,7 +104,7 @@ fn way_to_change(operation: OpCode) -> &'static str {
 }
 
 /// What to write where the service takes a name for none.
-fn way_to_a_name(operation: OpCode) -> &'static str {
+fn advice_on_name(operation: OpCode) -> &'static str {
     match operation {
         OpCode::ListHandles => ": write the prefix alone, such as 10",
         _ => ": write PREFIX/NAME, such as 10/a",
@@ -158,21 +158,21 @@ fn key_word(keys: KeyWords) -> &'static str {
 }
 
 /// The advice that names neither handle nor key.
-fn way_on(asked: &Asked<'_>, code: ResponseCode) -> &'static str {
+fn advice_for(asked: &Asked<'_>, code: ResponseCode) -> &'static str {
     let operation = asked.operation;
     match code {
-        ResponseCode::Error => way_to_the_rest(operation),
+        ResponseCode::Error => advice_on_rest(operation),
         ResponseCode::ServerBusy => {
             ": nothing was done: try again; if it stays so, the server's /health says why"
         }
-        ResponseCode::ProtocolError => way_to_a_layout(operation),
-        ResponseCode::OperationDenied => way_to_change(operation),
+        ResponseCode::ProtocolError => advice_on_layout(operation),
+        ResponseCode::OperationDenied => advice_on_change(operation),
         ResponseCode::HandleNotFound => advice_on_handle(operation),
-        ResponseCode::InvalidHandle => way_to_a_name(operation),
+        ResponseCode::InvalidHandle => advice_on_name(operation),
         ResponseCode::HandleAlreadyExists if operation == OpCode::CreateHandle => {
             ": change it by `hdl modify` or `hdl add`"
         }
-        ResponseCode::ValueNotFound => way_to_value(operation),
+        ResponseCode::ValueNotFound => advice_on_value(operation),
         ResponseCode::ValueAlreadyExists if operation == OpCode::AddValue => {
             ": a value with an index that exists is changed by `hdl modify`"
         }
@@ -242,7 +242,7 @@ pub(crate) fn advice(alloc: Global, asked: &Asked<'_>, code: u32) -> Result<Stri
             ": the handle of {} has no such key: check its index and its handle",
             key_word(asked.keys)
         ),
-        Some(code) => String::from_str(alloc, way_on(asked, code)),
+        Some(code) => String::from_str(alloc, advice_for(asked, code)),
     }
 }
 

@@ -1,10 +1,10 @@
 //! One request, asked of a server.
 
 use crate::advice::{Asked, KeyWords, UNSAYABLE, advice, is_unsayable};
-use crate::fault::WordFault;
+use crate::fault::ArgumentFault;
 use crate::key::key_of;
-use crate::request::{Details, is_administrator, request_of, takes_values};
-use crate::telling::{may_be_done, tell_fault};
+use crate::reporting::{may_be_done, report_fault};
+use crate::request::{RequestDetails, is_administrator, request_of, takes_values};
 use crate::words::{Printout, code_name, push_reply, push_short_reply};
 use hdl_client::{ClientFault, Key, Reply, connect};
 use hdl_frame::Envelope;
@@ -17,7 +17,7 @@ use thiserror::Error;
 
 /// What is asked of which server, and how the answer is shown.
 #[derive(Drop)]
-pub struct Inquiry {
+pub struct RequestOptions {
     pub operation: OpCode,
     pub handle: String,
     /// Values in words, none a key, or indexes, as the operation takes them; of a resolution the indexes of values.
@@ -38,55 +38,55 @@ pub struct Inquiry {
 
 /// Why a question has no answer.
 #[derive(Clone, Copy, Debug, PartialEq, Eq, Error)]
-pub enum AskFault {
+pub enum RequestFault {
     #[error("{0}")]
-    Words(WordFault),
+    Words(ArgumentFault),
     /// The value or index at this place is faulty.
     #[error("{1}")]
-    Word(usize, WordFault),
+    Word(usize, ArgumentFault),
     #[error("{0}")]
     Client(ClientFault),
     #[error("standard output can't be written")]
     Output,
 }
 
-impl AskFault {
+impl RequestFault {
     /// The exit status: 2 for words, 3 where no answer came that can be read, 1 else.
     pub fn status(self) -> u8 {
         match self {
-            AskFault::Words(_) | AskFault::Word(_, _) => 2,
-            AskFault::Client(_) => 3,
-            AskFault::Output => 1,
+            RequestFault::Words(_) | RequestFault::Word(_, _) => 2,
+            RequestFault::Client(_) => 3,
+            RequestFault::Output => 1,
         }
     }
 }
 
-impl From<WordFault> for AskFault {
-    fn from(fault: WordFault) -> AskFault {
-        AskFault::Words(fault)
+impl From<ArgumentFault> for RequestFault {
+    fn from(fault: ArgumentFault) -> RequestFault {
+        RequestFault::Words(fault)
     }
 }
 
-impl From<ClientFault> for AskFault {
-    fn from(fault: ClientFault) -> AskFault {
-        AskFault::Client(fault)
+impl From<ClientFault> for RequestFault {
+    fn from(fault: ClientFault) -> RequestFault {
+        RequestFault::Client(fault)
     }
 }
 
-impl From<AllocError> for AskFault {
-    fn from(_: AllocError) -> AskFault {
-        AskFault::Words(WordFault::Memory)
+impl From<AllocError> for RequestFault {
+    fn from(_: AllocError) -> RequestFault {
+        RequestFault::Words(ArgumentFault::Memory)
     }
 }
 
-impl From<io::Error> for AskFault {
-    fn from(_: io::Error) -> AskFault {
-        AskFault::Output
+impl From<io::Error> for RequestFault {
+    fn from(_: io::Error) -> RequestFault {
+        RequestFault::Output
     }
 }
 
 /// The handle that is asked for. A list may name the naming authority alone.
-fn handle_of(alloc: Global, question: &Inquiry) -> Result<String, AllocError> {
+fn handle_of(alloc: Global, question: &RequestOptions) -> Result<String, AllocError> {
     let handle = question.handle.as_str();
     if question.operation == OpCode::ListHandles && !handle.contains('/') {
         return format!(in alloc; "0.NA/{handle}");
@@ -95,8 +95,8 @@ fn handle_of(alloc: Global, question: &Inquiry) -> Result<String, AllocError> {
 }
 
 /// The values or indexes of a question, and its types.
-fn details_of(alloc: Global, question: &Inquiry) -> Result<Details, AskFault> {
-    let mut details = Details::new(alloc);
+fn details_of(alloc: Global, question: &RequestOptions) -> Result<RequestDetails, RequestFault> {
+    let mut details = RequestDetails::new(alloc);
     for (place, word) in question.words.iter().enumerate() {
         let read = if takes_values(question.operation) {
             details.push_word(alloc, word)
@@ -104,7 +104,7 @@ fn details_of(alloc: Global, question: &Inquiry) -> Result<Details, AskFault> {
             details.push_index(word)
         };
         if let Err(fault) = read {
-            return Err(AskFault::Word(place, fault));
+            return Err(RequestFault::Word(place, fault));
         }
     }
     for kind in &question.types {
@@ -113,7 +113,7 @@ fn details_of(alloc: Global, question: &Inquiry) -> Result<Details, AskFault> {
     Ok(details)
 }
 
-fn body_of(alloc: Global, question: &Inquiry) -> Result<RequestBody, AskFault> {
+fn body_of(alloc: Global, question: &RequestOptions) -> Result<RequestBody, RequestFault> {
     let details = details_of(alloc, question)?;
     let handle = handle_of(alloc, question)?;
     Ok(request_of(alloc, question.operation, &handle, details)?)
@@ -121,10 +121,10 @@ fn body_of(alloc: Global, question: &Inquiry) -> Result<RequestBody, AskFault> {
 
 fn print_reply(
     rt: &HostRuntime,
-    question: &Inquiry,
+    question: &RequestOptions,
     envelope: &Envelope,
     reply: &ReplyView<'_>,
-) -> Result<(), AskFault> {
+) -> Result<(), RequestFault> {
     let mut printout = Printout::new(rt.alloc(), question.shows_keys);
     if question.is_short {
         push_short_reply(&mut printout, reply)?;
@@ -136,18 +136,18 @@ fn print_reply(
 }
 
 /// Says on standard error that no text can name a new handle, if its name has a space or a line feed.
-fn tell_unsayable(rt: &HostRuntime, question: &Inquiry) {
+fn report_unsayable(rt: &HostRuntime, question: &RequestOptions) {
     if question.operation == OpCode::CreateHandle && is_unsayable(question.handle.as_bytes()) {
         let _ = eprintln!(rt; "hdl: {UNSAYABLE}");
     }
 }
 
 /// Prints a reply; answers 0 where its code is that of success, and else 1 with the code's name on standard error.
-fn show(rt: &HostRuntime, question: &Inquiry, reply: &Reply) -> Result<u8, AskFault> {
+fn show(rt: &HostRuntime, question: &RequestOptions, reply: &Reply) -> Result<u8, RequestFault> {
     let view = reply.view();
     print_reply(rt, question, &reply.envelope(), &view)?;
     if view.code() == Some(ResponseCode::Success) {
-        tell_unsayable(rt, question);
+        report_unsayable(rt, question);
         return Ok(0);
     }
     let code = view.header.response_code;
@@ -164,7 +164,7 @@ fn show(rt: &HostRuntime, question: &Inquiry, reply: &Reply) -> Result<u8, AskFa
 
 fn reply_to(
     rt: &HostRuntime,
-    question: &Inquiry,
+    question: &RequestOptions,
     body: &RequestBody,
     key: Option<&Key>,
 ) -> Result<Reply, ClientFault> {
@@ -175,20 +175,24 @@ fn reply_to(
 /// Asks this, and shows the reply.
 fn show_reply(
     rt: &HostRuntime,
-    question: &Inquiry,
+    question: &RequestOptions,
     body: &RequestBody,
     key: Option<&Key>,
-) -> Result<u8, AskFault> {
+) -> Result<u8, RequestFault> {
     let reply = reply_to(rt, question, body, key)?;
     show(rt, question, &reply)
 }
 
-fn ask_and_show(rt: &HostRuntime, question: &Inquiry, key: Option<&Key>) -> Result<u8, AskFault> {
+fn ask_and_show(
+    rt: &HostRuntime,
+    question: &RequestOptions,
+    key: Option<&Key>,
+) -> Result<u8, RequestFault> {
     let body = body_of(rt.alloc(), question)?;
     show_reply(rt, question, &body, key)
 }
 
-fn ask_with_key(rt: &HostRuntime, question: &Inquiry) -> Result<u8, AskFault> {
+fn ask_with_key(rt: &HostRuntime, question: &RequestOptions) -> Result<u8, RequestFault> {
     match &question.key {
         Some(words) => {
             let key = key_of(rt, words)?;
@@ -211,16 +215,16 @@ const UNQUOTED: &str =
     "a value is one argument: put it into quotes, such as '1 URL 86400 1110 UTF8 https://example.org/'";
 
 /// Whether a word is a part of a value whose quotes were forgotten.
-fn is_unquoted(word: &str, fault: WordFault) -> bool {
-    matches!(fault, WordFault::Value(_)) && !word.contains(' ')
+fn is_unquoted(word: &str, fault: ArgumentFault) -> bool {
+    matches!(fault, ArgumentFault::Value(_)) && !word.contains(' ')
 }
 
 /// How a value is written in the place of this word, which has this fault.
-fn advice_on_form(word: &str, fault: WordFault) -> &'static str {
+fn advice_on_form(word: &str, fault: ArgumentFault) -> &'static str {
     match fault {
-        WordFault::AdminFormat => ADMIN_FORM,
-        WordFault::Value(_) if is_administrator(word) => ADMIN_FORM,
-        WordFault::Value(_) => VALUE_FORM,
+        ArgumentFault::AdminFormat => ADMIN_FORM,
+        ArgumentFault::Value(_) if is_administrator(word) => ADMIN_FORM,
+        ArgumentFault::Value(_) => VALUE_FORM,
         _ => "",
     }
 }
@@ -241,7 +245,7 @@ fn shown_word(alloc: Global, place: usize, word: &str) -> Result<String, AllocEr
 }
 
 /// Says on standard error what is wrong with the word at this place.
-fn tell_word(rt: &HostRuntime, words: &[String], place: usize, fault: WordFault) {
+fn report_word(rt: &HostRuntime, words: &[String], place: usize, fault: ArgumentFault) {
     let word = match words.get(place) {
         Some(word) => word.as_str(),
         None => "",
@@ -263,8 +267,8 @@ fn is_change(operation: OpCode) -> bool {
 }
 
 /// Says on standard error why no reply came, and that a change may have been made.
-fn tell_no_reply(rt: &HostRuntime, question: &Inquiry, fault: ClientFault) {
-    tell_fault(rt, &question.server, fault);
+fn report_no_reply(rt: &HostRuntime, question: &RequestOptions, fault: ClientFault) {
+    report_fault(rt, &question.server, fault);
     let more = if is_change(question.operation) && may_be_done(fault) {
         "; the change may have been made: resolve the handle"
     } else {
@@ -274,10 +278,10 @@ fn tell_no_reply(rt: &HostRuntime, question: &Inquiry, fault: ClientFault) {
 }
 
 /// Says on standard error why a question has no answer.
-fn tell(rt: &HostRuntime, question: &Inquiry, fault: AskFault) {
+fn report(rt: &HostRuntime, question: &RequestOptions, fault: RequestFault) {
     match fault {
-        AskFault::Client(fault) => tell_no_reply(rt, question, fault),
-        AskFault::Word(place, fault) => tell_word(rt, &question.words, place, fault),
+        RequestFault::Client(fault) => report_no_reply(rt, question, fault),
+        RequestFault::Word(place, fault) => report_word(rt, &question.words, place, fault),
         other => {
             let _ = eprintln!(rt; "hdl: {other}");
         }
@@ -286,11 +290,11 @@ fn tell(rt: &HostRuntime, question: &Inquiry, fault: AskFault) {
 
 /// Asks, and prints the answer in words. Answers the exit status: 0 for code 1, 1 for another code, whose name is then on standard
 /// error, 2 for words that are no request, 3 where the server can't be reached or says nothing that can be read.
-pub fn run_question(rt: &HostRuntime, question: &Inquiry) -> u8 {
+pub fn run_request(rt: &HostRuntime, question: &RequestOptions) -> u8 {
     match ask_with_key(rt, question) {
         Ok(status) => status,
         Err(fault) => {
-            tell(rt, question, fault);
+            report(rt, question, fault);
             fault.status()
         }
     }

@@ -4,10 +4,10 @@ ghost use Rattle.std.specs.Prelude.{◌≡◌, IfOk};
 ghost use Rattle.hdl_msg.specs.RequestBody as requests;
 ghost use Rattle.hdl_client.specs.Challenge.{plain_header};
 
-use crate::fault::WordFault;
+use crate::fault::ArgumentFault;
 use crate::key::read_key;
-use crate::request::{Details, request_of, takes_values};
-use crate::scripts::find_asker;
+use crate::request::{RequestDetails, request_of, takes_values};
+use crate::scripts::find_requester;
 use crate::words::operation_in;
 use hdl_client::{Batch, RequestMessage, Task, request_message};
 use hdl_msg::{OpCode, RequestBody};
@@ -22,7 +22,7 @@ use thiserror::Error;
 #[error("line {line}: {fault}")]
 pub struct BatchFault {
     pub line: usize,
-    pub fault: WordFault,
+    pub fault: ArgumentFault,
 }
 
 /// A request whose values may still come: what its task is made of.
@@ -34,7 +34,7 @@ struct Block {
     key: Option<usize>,
     operation: OpCode,
     handle: String,
-    details: Details,
+    details: RequestDetails,
 }
 
 /// By whose layout values stand in the messages of a batch.
@@ -51,7 +51,7 @@ impl Layouts<'_> {
     fn of(self, name: &Name) -> Wire {
         match self {
             Layouts::One(wire) => wire,
-            Layouts::OfPublishers(tenants) => find_asker(tenants, name).wire,
+            Layouts::OfPublishers(tenants) => find_requester(tenants, name).wire,
         }
     }
 }
@@ -72,8 +72,8 @@ fn message_of(
     wire: Wire,
     operation: OpCode,
     handle: &str,
-    details: Details,
-) -> Result<RequestMessage, WordFault> {
+    details: RequestDetails,
+) -> Result<RequestMessage, ArgumentFault> {
     let body = request_of(alloc, operation, handle, details)?;
     Ok(RequestMessage::new(alloc, wire, &body)?)
 }
@@ -83,18 +83,18 @@ pub(crate) fn message_or_fault(
     alloc: Global,
     wire: Wire,
     body: &RequestBody,
-) -> Result<Vec<u8>, WordFault>
+) -> Result<Vec<u8>, ArgumentFault>
     ensures { IfOk result (λ v. v.items ≡ requests.request_message wire plain_header body.now) }
 {
     Ok(request_message(alloc, wire, body)?)
 }
 
 /// Why a line is no operation. A tab is named.
-fn no_operation(line: &str) -> WordFault {
+fn no_operation(line: &str) -> ArgumentFault {
     if line.contains('\t') {
-        WordFault::Tab
+        ArgumentFault::Tab
     } else {
-        WordFault::Operation
+        ArgumentFault::Operation
     }
 }
 
@@ -102,13 +102,13 @@ fn no_operation(line: &str) -> WordFault {
 fn handle_of<'a>(
     operation: OpCode,
     words: &'a str,
-    details: &mut Details,
-) -> Result<&'a str, WordFault> {
+    details: &mut RequestDetails,
+) -> Result<&'a str, ArgumentFault> {
     if operation != OpCode::RemoveValue {
         return Ok(words);
     }
     let Some((indexes, handle)) = words.split_once(':') else {
-        return Err(WordFault::Index);
+        return Err(ArgumentFault::Index);
     };
     for index in indexes.split(',') {
         details.push_index(index)?;
@@ -118,7 +118,7 @@ fn handle_of<'a>(
 
 impl Reader<'_> {
     /// Ends the request that was begun.
-    fn finish(&mut self) -> Result<(), WordFault> {
+    fn finish(&mut self) -> Result<(), ArgumentFault> {
         let Some(block) = self.block.take() else {
             return Ok(());
         };
@@ -148,8 +148,8 @@ impl Reader<'_> {
         operation: OpCode,
         title: &str,
         words: &str,
-    ) -> Result<(), WordFault> {
-        let mut details = Details::new(self.alloc);
+    ) -> Result<(), ArgumentFault> {
+        let mut details = RequestDetails::new(self.alloc);
         let handle = handle_of(operation, words, &mut details)?;
         let name = Name::read(self.alloc, handle.as_bytes())?;
         self.block = Some(Block {
@@ -164,16 +164,16 @@ impl Reader<'_> {
         Ok(())
     }
 
-    fn operation(&mut self, line: usize, text: &str) -> Result<(), WordFault> {
+    fn operation(&mut self, line: usize, text: &str) -> Result<(), ArgumentFault> {
         if text.starts_with('\u{feff}') {
-            return Err(WordFault::Mark);
+            return Err(ArgumentFault::Mark);
         }
         let Some((word, rest)) = text.split_once(' ') else {
             return Err(no_operation(text));
         };
         if word == "AUTHENTICATE" {
             let Some(reference) = rest.strip_prefix("SECKEY:") else {
-                return Err(WordFault::Key);
+                return Err(ArgumentFault::Key);
             };
             self.reference = Some(String::from_str(self.alloc, reference)?);
             return Ok(());
@@ -184,16 +184,16 @@ impl Reader<'_> {
         }
     }
 
-    fn value(&mut self, text: &str) -> Result<(), WordFault> {
+    fn value(&mut self, text: &str) -> Result<(), ArgumentFault> {
         match &mut self.block {
             Some(block) if takes_values(block.operation) => {
                 block.details.push_value(self.alloc, text)
             }
-            _ => Err(WordFault::Stray),
+            _ => Err(ArgumentFault::Stray),
         }
     }
 
-    fn line(&mut self, line: usize, text: &str) -> Result<(), WordFault> {
+    fn line(&mut self, line: usize, text: &str) -> Result<(), ArgumentFault> {
         if let Some(reference) = self.reference.take() {
             let key = read_key(self.alloc, &reference, text.as_bytes())?;
             self.batch.keys.push(key)?;
@@ -215,9 +215,14 @@ impl Reader<'_> {
 
 impl Reader<'_> {
     /// The line that is named for a fault at this line: the request's own, where the request as a whole is at fault.
-    fn line_of(&self, line: usize, begun: Option<usize>, fault: WordFault) -> (usize, WordFault) {
+    fn line_of(
+        &self,
+        line: usize,
+        begun: Option<usize>,
+        fault: ArgumentFault,
+    ) -> (usize, ArgumentFault) {
         match fault {
-            WordFault::Missing | WordFault::TooLong => (begun.unwrap_or(line), fault),
+            ArgumentFault::Missing | ArgumentFault::TooLong => (begun.unwrap_or(line), fault),
             _ => (line, fault),
         }
     }
@@ -228,7 +233,7 @@ impl Reader<'_> {
     }
 
     /// Reads all lines.
-    fn read(&mut self, text: &str) -> Result<(), (usize, WordFault)> {
+    fn read(&mut self, text: &str) -> Result<(), (usize, ArgumentFault)> {
         let mut number = 0usize;
         for line in text.lines() {
             number = number.saturating_add(1);
@@ -238,7 +243,7 @@ impl Reader<'_> {
             }
         }
         if self.reference.is_some() {
-            return Err((number, WordFault::NoSecret));
+            return Err((number, ArgumentFault::NoSecret));
         }
         let begun = self.first_line();
         match self.finish() {

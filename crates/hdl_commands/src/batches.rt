@@ -7,7 +7,7 @@ ghost use Rattle.hdl_commands.specs.Ended.{EndsWith};
 
 use crate::advice::{KeyWords, asked_by, line_advice};
 use crate::batch_text::{Layouts, read_batch};
-use crate::telling::tell_fault;
+use crate::reporting::report_fault;
 use crate::words::code_name;
 use hdl_client::{Batch, ClientFault, Outcomes, Session, Task, Transport, connect};
 use hdl_lines::printed_octets;
@@ -17,7 +17,7 @@ use std::io::IsTerminal;
 
 /// Prints what comes, and counts it.
 #[derive(Drop)]
-struct Tally<'r> {
+struct BatchPrinter<'r> {
     rt: &'r HostRuntime,
     done: usize,
     failures: usize,
@@ -27,7 +27,7 @@ struct Tally<'r> {
     shown_of: Option<usize>,
 }
 
-impl Tally<'_> {
+impl BatchPrinter<'_> {
     /// Puts how far it is in the place of what stands in the terminal's last line.
     fn show_progress(&self) {
         if let Some(all) = self.shown_of {
@@ -54,7 +54,7 @@ impl Tally<'_> {
     }
 }
 
-impl Outcomes for Tally<'_> {
+impl Outcomes for BatchPrinter<'_> {
     // None has failed exactly if none had and this one succeeded.
     ghost notes = { λ old _ code new. (new.failures ≡ 0) ↔ ((old.failures ≡ 0) × (code ≡ response_number Success)) };
 
@@ -71,25 +71,25 @@ impl Outcomes for Tally<'_> {
 }
 
 /// Whether progress is shown: where standard error is a terminal, and the outcomes go elsewhere.
-pub(crate) fn is_watched(rt: &HostRuntime) -> bool {
+pub(crate) fn shows_progress(rt: &HostRuntime) -> bool {
     rt.stderr().is_terminal() && !rt.stdout().is_terminal()
 }
 
 /// Prints how many requests succeeded, and the lines of those that failed.
-fn print_end(tally: &Tally<'_>) {
-    let failures = tally.failures;
-    let succeeded = tally.done.saturating_sub(failures);
-    let _ = println!(tally.rt; "{succeeded} succeeded, {failures} failed");
-    for line in &tally.failed {
-        let _ = println!(tally.rt; "failed: line {line}");
+fn print_end(printer: &BatchPrinter<'_>) {
+    let failures = printer.failures;
+    let succeeded = printer.done.saturating_sub(failures);
+    let _ = println!(printer.rt; "{succeeded} succeeded, {failures} failed");
+    for line in &printer.failed {
+        let _ = println!(printer.rt; "failed: line {line}");
     }
 }
 
 /// Says on standard error why so many requests have no outcome. Answers the exit status.
-fn tell_unanswered(rt: &HostRuntime, server: &str, fault: ClientFault, left: usize) -> u8
+fn report_unanswered(rt: &HostRuntime, server: &str, fault: ClientFault, left: usize) -> u8
     ensures { result ≡ 3 }
 {
-    tell_fault(rt, server, fault);
+    report_fault(rt, server, fault);
     let _ = eprintln!(rt; "; {left} without an outcome");
     3
 }
@@ -98,13 +98,13 @@ fn tell_unanswered(rt: &HostRuntime, server: &str, fault: ClientFault, left: usi
 fn ask_all<S: Transport>(
     session: &mut Session<S>,
     batch: &Batch,
-    tally: &mut Tally<'_>,
+    printer: &mut BatchPrinter<'_>,
 ) -> Result<u8, ClientFault>
-    requires { tally.old.failures ≡ 0 }
+    requires { printer.old.failures ≡ 0 }
     ensures whole { IfOk result (EndsWith S.Transport batch.now.keys.items batch.now.tasks.items session.old.stream session.new.stream) }
 {
-    session.run_batch(batch, tally)?;
-    Ok(u8::from(tally.failures > 0))
+    session.run_batch(batch, printer)?;
+    Ok(u8::from(printer.failures > 0))
 }
 
 /// Asks all of a batch, and prints a line for each outcome as it comes, with what to do about it, and at the end how many succeeded and the lines of those that
@@ -118,20 +118,20 @@ pub fn ask_batch<S: Transport>(
 ) -> u8
     ensures whole { result ≢ 3 → EndsWith S.Transport batch.now.keys.items batch.now.tasks.items session.old.stream session.new.stream result }
 {
-    let mut tally = Tally {
+    let mut printer = BatchPrinter {
         rt,
         done: 0,
         failures: 0,
         failed: Vec::new(rt.alloc()),
-        shown_of: Some(batch.tasks.len()).filter(|_| is_watched(rt)),
+        shown_of: Some(batch.tasks.len()).filter(|_| shows_progress(rt)),
     };
-    let ended = ask_all(session, batch, &mut tally);
-    print_end(&tally);
+    let ended = ask_all(session, batch, &mut printer);
+    print_end(&printer);
     match ended {
         Ok(status) => status,
         Err(fault) => {
-            let left = batch.tasks.len().saturating_sub(tally.done);
-            tell_unanswered(rt, server, fault, left)
+            let left = batch.tasks.len().saturating_sub(printer.done);
+            report_unanswered(rt, server, fault, left)
         }
     }
 }
@@ -148,6 +148,6 @@ pub fn run_batch_text(rt: &HostRuntime, server: &str, wire: Wire, text: &str) ->
     };
     match connect(rt, server) {
         Ok(mut session) => ask_batch(rt, server, &mut session, &batch),
-        Err(fault) => tell_unanswered(rt, server, fault, batch.tasks.len()),
+        Err(fault) => report_unanswered(rt, server, fault, batch.tasks.len()),
     }
 }

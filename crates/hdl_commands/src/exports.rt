@@ -13,7 +13,7 @@ use std::io::{self, BufRead, BufReader, BufWriter, Write};
 
 /// How the values are written.
 #[derive(Clone, Copy, PartialEq, Eq)]
-pub enum Table {
+pub enum ExportFormat {
     /// A row for each value, which an import reads as the same value.
     Csv,
     /// An object for each value, on a line of its own.
@@ -111,7 +111,7 @@ fn object_of(alloc: Global, handle: &[u8], value: &Value) -> Result<Option<Vec<u
 /// What a value comes to.
 fn exported_value(
     alloc: Global,
-    table: Table,
+    table: ExportFormat,
     shows_keys: bool,
     handle: &[u8],
     value: &Value,
@@ -122,8 +122,8 @@ fn exported_value(
         return Ok(Exported::Key);
     }
     let line = match table {
-        Table::Csv => row_of(alloc, handle, value)?,
-        Table::Json => object_of(alloc, handle, value)?,
+        ExportFormat::Csv => row_of(alloc, handle, value)?,
+        ExportFormat::Json => object_of(alloc, handle, value)?,
     };
     match line {
         Some(line) => Ok(Exported::Line(line)),
@@ -147,7 +147,7 @@ fn value_of(alloc: Global, line: &str) -> Option<(&str, Value)> {
 
 fn exported_line(
     alloc: Global,
-    table: Table,
+    table: ExportFormat,
     shows_keys: bool,
     line: &str,
 ) -> Result<Exported, AllocError> {
@@ -164,7 +164,7 @@ fn exported_line(
 }
 
 /// Says on standard error that no row says a value.
-fn tell_unsaid(rt: &HostRuntime, handle: &[u8], index: u32) {
+fn report_unsaid(rt: &HostRuntime, handle: &[u8], index: u32) {
     let alloc = rt.alloc();
     // without memory for it the handle is missing from the line
     let handle = printed_octets(alloc, handle).unwrap_or_else(|_| String::new(alloc));
@@ -173,7 +173,7 @@ fn tell_unsaid(rt: &HostRuntime, handle: &[u8], index: u32) {
     );
 }
 
-fn export_lines(rt: &HostRuntime, table: Table, shows_keys: bool) -> io::Result<Counts> {
+fn export_lines(rt: &HostRuntime, table: ExportFormat, shows_keys: bool) -> io::Result<Counts> {
     let alloc = rt.alloc();
     let mut counts = Counts {
         written: 0,
@@ -182,7 +182,7 @@ fn export_lines(rt: &HostRuntime, table: Table, shows_keys: bool) -> io::Result<
     };
     let mut input = BufReader::new(alloc, rt.reader())?;
     let mut output = BufWriter::new(alloc, io::writer(rt))?;
-    if table == Table::Csv {
+    if table == ExportFormat::Csv {
         output.write_all(HEADER.as_bytes())?;
     }
     let mut line = String::new(alloc);
@@ -199,7 +199,7 @@ fn export_lines(rt: &HostRuntime, table: Table, shows_keys: bool) -> io::Result<
             }
             Exported::Key => counts.keys = counts.keys.saturating_add(1),
             Exported::Unsaid(handle, index) => {
-                tell_unsaid(rt, &handle, index);
+                report_unsaid(rt, &handle, index);
                 counts.unsaid = counts.unsaid.saturating_add(1);
             }
             Exported::Other => {}
@@ -210,7 +210,7 @@ fn export_lines(rt: &HostRuntime, table: Table, shows_keys: bool) -> io::Result<
 }
 
 /// Says on standard error what to do if a text has no value: it may have them in words.
-fn tell_none(rt: &HostRuntime, counts: Counts) {
+fn report_none(rt: &HostRuntime, counts: Counts) {
     if counts.written == 0 && counts.keys == 0 && counts.unsaid == 0 {
         let _ = eprintln!(rt;
             "hdl: the text has no value in digits: `handled export` makes such a text of a table, and `hdl tenants` of words"
@@ -221,7 +221,7 @@ fn tell_none(rt: &HostRuntime, counts: Counts) {
 /// Writes the values of the tenants text on standard input as a table, without those that are keys unless they are asked for, and says
 /// on standard error how many there are. Other lines are passed over. Answers the exit status: 0, or 1 where no row says a value, or
 /// a stream failed.
-pub fn export_values(rt: &HostRuntime, table: Table, shows_keys: bool) -> u8 {
+pub fn export_values(rt: &HostRuntime, table: ExportFormat, shows_keys: bool) -> u8 {
     match export_lines(rt, table, shows_keys) {
         Ok(counts) => {
             let Counts {
@@ -232,7 +232,7 @@ pub fn export_values(rt: &HostRuntime, table: Table, shows_keys: bool) -> u8 {
             let _ = eprintln!(rt;
                 "hdl: {written} values written, {keys} keys left out, {unsaid} that no row says"
             );
-            tell_none(rt, counts);
+            report_none(rt, counts);
             u8::from(unsaid > 0)
         }
         Err(fault) => {

@@ -9,7 +9,7 @@ use thiserror::Error;
 
 /// What is wrong with the words of a request. None of them carries words.
 #[derive(Clone, Copy, Debug, PartialEq, Eq, Error)]
-pub enum WordFault {
+pub enum ArgumentFault {
     #[error("unknown operation: write RESOLVE, CREATE, ADD, MODIFY, REMOVE, DELETE, LIST or AUTHENTICATE")]
     Operation,
     #[error("{0}")]
@@ -80,41 +80,41 @@ pub enum WordFault {
     Memory,
 }
 
-impl From<AllocError> for WordFault {
-    fn from(_: AllocError) -> WordFault {
-        WordFault::Memory
+impl From<AllocError> for ArgumentFault {
+    fn from(_: AllocError) -> ArgumentFault {
+        ArgumentFault::Memory
     }
 }
 
-impl<T: Drop> From<AllocFailed<T>> for WordFault {
-    fn from(_: AllocFailed<T>) -> WordFault {
-        WordFault::Memory
+impl<T: Drop> From<AllocFailed<T>> for ArgumentFault {
+    fn from(_: AllocFailed<T>) -> ArgumentFault {
+        ArgumentFault::Memory
     }
 }
 
-impl From<NameFault> for WordFault {
-    fn from(fault: NameFault) -> WordFault {
+impl From<NameFault> for ArgumentFault {
+    fn from(fault: NameFault) -> ArgumentFault {
         match fault {
-            NameFault::Memory => WordFault::Memory,
-            other => WordFault::Handle(other),
+            NameFault::Memory => ArgumentFault::Memory,
+            other => ArgumentFault::Handle(other),
         }
     }
 }
 
-impl From<LineFault> for WordFault {
-    fn from(fault: LineFault) -> WordFault {
+impl From<LineFault> for ArgumentFault {
+    fn from(fault: LineFault) -> ArgumentFault {
         match fault {
-            LineFault::Memory => WordFault::Memory,
-            other => WordFault::Value(other),
+            LineFault::Memory => ArgumentFault::Memory,
+            other => ArgumentFault::Value(other),
         }
     }
 }
 
-impl From<ClientFault> for WordFault {
-    fn from(fault: ClientFault) -> WordFault {
+impl From<ClientFault> for ArgumentFault {
+    fn from(fault: ClientFault) -> ArgumentFault {
         match fault {
-            ClientFault::TooLong => WordFault::TooLong,
-            _ => WordFault::Memory,
+            ClientFault::TooLong => ArgumentFault::TooLong,
+            _ => ArgumentFault::Memory,
         }
     }
 }

@@ -21,7 +21,7 @@ mod update;
 mod updating;
 mod written;
 
-pub use asking::{Import, import_file};
+pub use asking::{ImportOptions, import_file};
 pub(crate) use reading::whole_values;
-pub use update::{Kept, update_is_right};
+pub use update::{KeptFields, update_is_right};
 pub(crate) use written::{HEADER, row_of};

@@ -1,6 +1,6 @@
 //! Keys: a reference in words, and a secret.
 
-use crate::fault::WordFault;
+use crate::fault::ArgumentFault;
 use hdl_client::Key;
 use hdl_limits::Octets;
 use hdl_lines::read_reference;
@@ -13,9 +13,9 @@ use std::io::IsTerminal;
 pub const SECRET_VARIABLE: &str = "HDL_SECRET";
 
 /// A reference to a key in words.
-pub(crate) fn read_key_reference(alloc: Global, words: &str) -> Result<RawRef, WordFault> {
+pub(crate) fn read_key_reference(alloc: Global, words: &str) -> Result<RawRef, ArgumentFault> {
     let Some((index, handle)) = read_reference(words) else {
-        return Err(WordFault::Key);
+        return Err(ArgumentFault::Key);
     };
     Ok(RawRef {
         handle: Octets::new(Vec::from_slice(alloc, handle.as_bytes())?),
@@ -24,10 +24,10 @@ pub(crate) fn read_key_reference(alloc: Global, words: &str) -> Result<RawRef, W
 }
 
 /// A key by its reference in words, and its secret.
-pub(crate) fn read_key(alloc: Global, words: &str, secret: &[u8]) -> Result<Key, WordFault> {
+pub(crate) fn read_key(alloc: Global, words: &str, secret: &[u8]) -> Result<Key, ArgumentFault> {
     let RawRef { handle, index } = read_key_reference(alloc, words)?;
     if secret.is_empty() {
-        return Err(WordFault::NoSecret);
+        return Err(ArgumentFault::NoSecret);
     }
     Ok(Key {
         handle,
@@ -37,18 +37,18 @@ pub(crate) fn read_key(alloc: Global, words: &str, secret: &[u8]) -> Result<Key,
 }
 
 /// The secret of a key: what the environment's variable says, else the first line of standard input.
-fn secret(rt: &HostRuntime) -> Result<String, WordFault> {
+fn secret(rt: &HostRuntime) -> Result<String, ArgumentFault> {
     match env::var(rt, SECRET_VARIABLE) {
         Ok(secret) => return Ok(secret),
         Err(env::VarError::NotPresent) => {}
-        Err(_) => return Err(WordFault::NoSecret),
+        Err(_) => return Err(ArgumentFault::NoSecret),
     }
     if rt.stdin().is_terminal() {
         let _ = eprintln!(rt; "hdl: HDL_SECRET isn't set: type the secret of the key, and Enter");
     }
     let mut line = String::new(rt.alloc());
     if rt.read_line(&mut line).is_err() {
-        return Err(WordFault::NoSecret);
+        return Err(ArgumentFault::NoSecret);
     }
     if line.ends_with('\n') {
         line.pop();
@@ -60,7 +60,7 @@ fn secret(rt: &HostRuntime) -> Result<String, WordFault> {
 }
 
 /// The key of a reference in words, with its secret.
-pub(crate) fn key_of(rt: &HostRuntime, words: &str) -> Result<Key, WordFault> {
+pub(crate) fn key_of(rt: &HostRuntime, words: &str) -> Result<Key, ArgumentFault> {
     let secret = secret(rt)?;
     read_key(rt.alloc(), words, secret.as_bytes())
 }

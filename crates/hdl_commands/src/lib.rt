@@ -1,14 +1,14 @@
 //! What the program `hdl` does, but for its command line.
 //!
 //! ```text
-//! Question -> run_question -> hdl_client -> a reply in words ([`words`])
+//! Question -> run_request -> hdl_client -> a reply in words ([`words`])
 //! octets -> explain -> the request, reply or value that they are, in words ([`words`])
 //! text of a batch -> read_batch -> Batch -> ask_batch, or write_script -> the script that `handled` takes
 //! lines with values in words -> write_tenants -> lines of a tenants text
 //! rows of a CSV file -> import_file -> the requests that create its handles, or update them ([`imports`])
 //! PREFIX, OLD, NEW -> replace_urls -> the requests that modify URLs ([`replaces`])
 //! a tenants text -> export_values -> its values as rows of a CSV file, or as JSON
-//! prefixes, random octets -> write_fresh_tenants -> a tenants text in words, with fresh secrets
+//! prefixes, random octets -> write_initial_tenants -> a tenants text in words, with fresh secrets
 //! an address and a port -> make_site -> the data of an HS_SITE value -> show_site -> what it says, in words ([`sites`])
 //! a server -> ask_site -> what its site information says, in words
 //! ```
@@ -34,27 +34,27 @@ mod batch_text;
 mod batches;
 mod exports;
 mod fault;
-mod fresh;
 mod imports;
+mod init;
 mod key;
 mod replaces;
+mod reporting;
 mod request;
 mod scripts;
 mod sites;
-mod telling;
 mod tenants;
 mod words;
 
-pub use asking::{Inquiry, run_question};
+pub use asking::{RequestOptions, run_request};
 pub use batch_text::{BatchFault, Layouts, read_batch};
 pub use batches::{ask_batch, run_batch_text};
-pub use exports::{Table, export_values};
-pub use fault::WordFault;
-pub use fresh::{FreshFault, fresh_secret, write_fresh_tenants};
-pub use imports::{Import, Kept, import_file, update_is_right};
+pub use exports::{ExportFormat, export_values};
+pub use fault::ArgumentFault;
+pub use imports::{ImportOptions, KeptFields, import_file, update_is_right};
+pub use init::{InitFault, random_secret, write_initial_tenants};
 pub use key::SECRET_VARIABLE;
-pub use replaces::{Replacement, replace_urls};
+pub use replaces::{ReplaceOptions, replace_urls};
 pub use scripts::write_script;
-pub use sites::{SiteFault, SiteWords, ask_site, make_site, show_site};
+pub use sites::{SiteFault, SiteOptions, ask_site, make_site, show_site};
 pub use tenants::{tenants_faults, write_tenants};
 pub use words::{Printout, explain, operation_in};

@@ -6,8 +6,8 @@
 //! ```
 
 mod asking;
-mod course;
 mod data;
 mod fault;
+mod run;
 
-pub use asking::{Replacement, replace_urls};
+pub use asking::{ReplaceOptions, replace_urls};

@@ -1,6 +1,6 @@
 //! Requests in words.
 
-use crate::fault::WordFault;
+use crate::fault::ArgumentFault;
 use hdl_limits::{Items, Octets};
 use hdl_lines::{LineFault, index_in, read_value_line};
 use hdl_msg::{OpCode, RequestBody};
@@ -24,17 +24,17 @@ pub(crate) fn is_administrator(words: &str) -> bool {
 }
 
 /// Why words are no value: a tab is named, and the format of an administrator.
-fn fault_in(words: &str, fault: LineFault) -> WordFault {
+fn fault_in(words: &str, fault: LineFault) -> ArgumentFault {
     match fault {
-        LineFault::Memory => WordFault::Memory,
-        _ if words.contains('\t') => WordFault::Tab,
-        LineFault::Value(ValueFault::BadAdmin) => WordFault::AdminFormat,
-        other => WordFault::Value(other),
+        LineFault::Memory => ArgumentFault::Memory,
+        _ if words.contains('\t') => ArgumentFault::Tab,
+        LineFault::Value(ValueFault::BadAdmin) => ArgumentFault::AdminFormat,
+        other => ArgumentFault::Value(other),
     }
 }
 
 /// The value that words say.
-pub(crate) fn value_in(alloc: Global, words: &str) -> Result<Value, WordFault> {
+pub(crate) fn value_in(alloc: Global, words: &str) -> Result<Value, ArgumentFault> {
     match read_value_line(alloc, words.as_bytes()) {
         Ok(value) => Ok(value),
         Err(fault) => Err(fault_in(words, fault)),
@@ -43,15 +43,15 @@ pub(crate) fn value_in(alloc: Global, words: &str) -> Result<Value, WordFault> {
 
 /// The indexes, types and values of a request.
 #[derive(Drop)]
-pub struct Details {
+pub struct RequestDetails {
     pub indexes: Vec<u32>,
     pub types: Vec<Octets>,
     pub values: Vec<Value>,
 }
 
-impl Details {
-    pub fn new(alloc: Global) -> Details {
-        Details {
+impl RequestDetails {
+    pub fn new(alloc: Global) -> RequestDetails {
+        RequestDetails {
             indexes: Vec::new(alloc),
             types: Vec::new(alloc),
             values: Vec::new(alloc),
@@ -59,9 +59,9 @@ impl Details {
     }
 
     /// Adds an index in words.
-    pub fn push_index(&mut self, digits: &str) -> Result<(), WordFault> {
+    pub fn push_index(&mut self, digits: &str) -> Result<(), ArgumentFault> {
         let Some(index) = index_in(digits) else {
-            return Err(WordFault::Index);
+            return Err(ArgumentFault::Index);
         };
         self.indexes.push(index)?;
         Ok(())
@@ -76,17 +76,17 @@ impl Details {
     }
 
     /// Adds a value by a word of the command line. A key is refused: others on the machine can read that line.
-    pub fn push_word(&mut self, alloc: Global, word: &str) -> Result<(), WordFault> {
+    pub fn push_word(&mut self, alloc: Global, word: &str) -> Result<(), ArgumentFault> {
         let value = value_in(alloc, word)?;
         if value.is_secret_key() {
-            return Err(WordFault::KeyInWords);
+            return Err(ArgumentFault::KeyInWords);
         }
         self.values.push(value)?;
         Ok(())
     }
 
     /// Adds a value by its line.
-    pub fn push_value(&mut self, alloc: Global, line: &str) -> Result<(), WordFault> {
+    pub fn push_value(&mut self, alloc: Global, line: &str) -> Result<(), ArgumentFault> {
         let value = value_in(alloc, line)?;
         self.values.push(value)?;
         Ok(())
@@ -98,10 +98,10 @@ pub fn request_of(
     alloc: Global,
     operation: OpCode,
     handle: &str,
-    details: Details,
-) -> Result<RequestBody, WordFault> {
+    details: RequestDetails,
+) -> Result<RequestBody, ArgumentFault> {
     let handle = Octets::new(Vec::from_slice(alloc, handle.as_bytes())?);
-    let Details {
+    let RequestDetails {
         indexes,
         types,
         values,
@@ -109,7 +109,7 @@ pub fn request_of(
     if takes_values(operation) && values.is_empty()
         || operation == OpCode::RemoveValue && indexes.is_empty()
     {
-        return Err(WordFault::Missing);
+        return Err(ArgumentFault::Missing);
     }
     let indexes = Items::new(indexes);
     let types = Items::new(types);
@@ -126,6 +126,6 @@ pub fn request_of(
         OpCode::AddValue => Ok(RequestBody::Add { handle, values }),
         OpCode::RemoveValue => Ok(RequestBody::Remove { handle, indexes }),
         OpCode::ModifyValue => Ok(RequestBody::Modify { handle, values }),
-        OpCode::GetSiteInfo | OpCode::ChallengeResponse => Err(WordFault::Operation),
+        OpCode::GetSiteInfo | OpCode::ChallengeResponse => Err(ArgumentFault::Operation),
     }
 }

@@ -1,7 +1,7 @@
 //! Scripts for `handled`, from words.
 
 use crate::batch_text::{BatchFault, Layouts, message_or_fault, read_batch};
-use crate::fault::WordFault;
+use crate::fault::ArgumentFault;
 use crate::tenants::write_tenants;
 use hdl_auth::algorithm::Algorithm;
 use hdl_auth::digest;
@@ -34,18 +34,18 @@ pub enum ScriptFault {
 
 /// What asks: a lane, the hash function of the handle's prefix there, and the layout of values there.
 #[derive(Clone, Copy)]
-pub(crate) struct Asker {
+pub(crate) struct Requester {
     pub lane: u16,
     pub algorithm: Algorithm,
     pub wire: Wire,
 }
 
 /// The first lane of a publisher for which the handle's prefix is hosted. Lane 0 asks for a handle that is hosted for no publisher.
-pub(crate) fn find_asker(tenants: &Tenants, name: &Name) -> Asker {
+pub(crate) fn find_requester(tenants: &Tenants, name: &Name) -> Requester {
     for place in 0..usize::from(tenants.lanes()) {
         if let Some(algorithm) = tenants.hosting(place, name) {
             if let Some((lane, _)) = tenants.lanes_of(place) {
-                return Asker {
+                return Requester {
                     lane,
                     algorithm,
                     wire: tenants.wire(place),
@@ -53,7 +53,7 @@ pub(crate) fn find_asker(tenants: &Tenants, name: &Name) -> Asker {
             }
         }
     }
-    Asker {
+    Requester {
         lane: 0,
         algorithm: Algorithm::Sha1,
         wire: tenants.wire(0),
@@ -68,9 +68,9 @@ fn push_frame(
     session: u32,
     request: u32,
     message: &[u8],
-) -> Result<(), WordFault> {
+) -> Result<(), ArgumentFault> {
     if message.len() > MESSAGE_MAX as usize {
-        return Err(WordFault::TooLong);
+        return Err(ArgumentFault::TooLong);
     }
     let digits = hex::encode(alloc, &frame_of(alloc, session, request, message)?)?;
     let line = format!(in alloc; "frame {lane} 0 1000 {NONCE_DIGITS} {digits}\n")?;
@@ -84,7 +84,7 @@ fn response_message(
     algorithm: Algorithm,
     key: &Key,
     message: &[u8],
-) -> Result<Vec<u8>, WordFault> {
+) -> Result<Vec<u8>, ArgumentFault> {
     let digest = digest(algorithm, signed_part(message));
     let answer = challenge_response(alloc, key, &NONCE, &digest)?;
     message_or_fault(alloc, Wire::Profile, &answer)
@@ -94,12 +94,12 @@ fn response_message(
 fn push_response(
     script: &mut String,
     alloc: Global,
-    asker: Asker,
+    requester: Requester,
     key: &Key,
     message: &[u8],
-) -> Result<(), WordFault> {
-    let response = response_message(alloc, asker.algorithm, key, message)?;
-    push_frame(script, alloc, asker.lane, 1, 2, &response)
+) -> Result<(), ArgumentFault> {
+    let response = response_message(alloc, requester.algorithm, key, message)?;
+    push_frame(script, alloc, requester.lane, 1, 2, &response)
 }
 
 /// Adds a line of a word and a lane.
@@ -109,9 +109,9 @@ fn push_lane(script: &mut String, alloc: Global, word: &str, lane: u16) -> Resul
 }
 
 /// What asks about a task's handle.
-fn asker_of(alloc: Global, tenants: &Tenants, task: &Task) -> Result<Asker, WordFault> {
+fn requester_of(alloc: Global, tenants: &Tenants, task: &Task) -> Result<Requester, ArgumentFault> {
     let name = Name::read(alloc, task.request.handle())?;
-    Ok(find_asker(tenants, &name))
+    Ok(find_requester(tenants, &name))
 }
 
 /// Whether a task is challenged where a key is there: all but resolutions, which ask as anyone.
@@ -144,15 +144,15 @@ fn push_task(
     tenants: &Tenants,
     batch: &Batch,
     task: &Task,
-) -> Result<(), WordFault> {
-    let asker = asker_of(alloc, tenants, task)?;
+) -> Result<(), ArgumentFault> {
+    let requester = requester_of(alloc, tenants, task)?;
     push_title(script, alloc, &task.title)?;
-    push_lane(script, alloc, "open", asker.lane)?;
-    push_frame(script, alloc, asker.lane, 0, 1, task.request.octets())?;
+    push_lane(script, alloc, "open", requester.lane)?;
+    push_frame(script, alloc, requester.lane, 0, 1, task.request.octets())?;
     if let Some(key) = task_key(batch, task) {
-        push_response(script, alloc, asker, key, task.request.octets())?;
+        push_response(script, alloc, requester, key, task.request.octets())?;
     }
-    push_lane(script, alloc, "close", asker.lane)?;
+    push_lane(script, alloc, "close", requester.lane)?;
     Ok(())
 }
 
@@ -208,7 +208,7 @@ fn push_events(
     if script.push_str("run\n").is_err() {
         return Err(BatchFault {
             line: 0,
-            fault: WordFault::Memory,
+            fault: ArgumentFault::Memory,
         });
     }
     push_batch(script, alloc, tenants, &batch)

@@ -6,7 +6,7 @@ ghost use Rattle.hex.specs.Hex.{encode_lower};
 ghost use Rattle.hdl_site.specs.Info.{site_octets};
 ghost use Rattle.hdl_site.specs.Making.{planned_site};
 
-use crate::telling::tell_fault;
+use crate::reporting::report_fault;
 use crate::words::{Printout, code_name};
 use hdl_client::{ClientFault, Reply, connect};
 use hdl_limits::Octets;
@@ -27,7 +27,7 @@ const KEY_MOST: usize = 32_000;
 
 /// A server in words, of which the data of an HS_SITE value is made.
 #[derive(Drop)]
-pub struct SiteWords {
+pub struct SiteOptions {
     /// An IPv4 or IPv6 address.
     pub address: String,
     pub port: String,
@@ -80,7 +80,7 @@ impl<T: Drop> From<AllocFailed<T>> for SiteFault {
 // ---- making
 
 /// The server that words say, with this public key.
-fn plan_of(words: &SiteWords, key: Vec<u8>) -> Result<ServerPlan, SiteFault> {
+fn plan_of(words: &SiteOptions, key: Vec<u8>) -> Result<ServerPlan, SiteFault> {
     let Ok(address) = words.address.parse::<IpAddr>() else {
         return Err(SiteFault::Address);
     };
@@ -144,7 +144,7 @@ fn line_of(alloc: Global, publisher: &Option<String>, digits: &str) -> Result<St
 }
 
 /// Makes the data of the HS_SITE value of a server, which goes into a file or comes back as a line.
-fn made(rt: &HostRuntime, words: &SiteWords) -> Result<String, SiteFault> {
+fn made(rt: &HostRuntime, words: &SiteOptions) -> Result<String, SiteFault> {
     let alloc = rt.alloc();
     let plan = plan_of(words, key_in(rt, &words.key)?)?;
     let Some(path) = &words.out else {
@@ -160,7 +160,7 @@ fn made(rt: &HostRuntime, words: &SiteWords) -> Result<String, SiteFault> {
 
 /// Makes the data of the HS_SITE value of a server, and prints it or writes it to a file; on standard error, what to do with it. Answers the
 /// exit status: 0, or 2 for words of which none is made.
-pub fn make_site(rt: &HostRuntime, words: &SiteWords) -> u8 {
+pub fn make_site(rt: &HostRuntime, words: &SiteOptions) -> u8 {
     match made(rt, words) {
         Ok(line) => {
             let _ = print!(rt; "{line}");
@@ -374,7 +374,7 @@ fn asked(rt: &HostRuntime, server: &str) -> Result<SiteAnswer, ClientFault> {
 }
 
 /// What to do where a server tells no site information.
-fn way_on(code: u32) -> &'static str {
+fn advice_for(code: u32) -> &'static str {
     if code == ResponseCode::OperationDenied.number() {
         ": this port tells no site information. In the tenants text its publisher's line must end with handle-net, and a line `site NAME HEX` gives the octets"
     } else {
@@ -390,7 +390,7 @@ fn show_answer(rt: &HostRuntime, answer: &SiteAnswer) -> u8 {
             eprintln!(rt; "hdl: the site information is no data of an HS_SITE value: {digits}")
         }
         SiteAnswer::Code(code) => {
-            eprintln!(rt; "hdl: {code} {}{}", code_name(*code), way_on(*code))
+            eprintln!(rt; "hdl: {code} {}{}", code_name(*code), advice_for(*code))
         }
     };
     match answer {
@@ -406,7 +406,7 @@ pub fn ask_site(rt: &HostRuntime, server: &str) -> u8 {
     match asked(rt, server) {
         Ok(answer) => show_answer(rt, &answer),
         Err(fault) => {
-            tell_fault(rt, server, fault);
+            report_fault(rt, server, fault);
             let _ = eprintln!(rt);
             3
         }

@@ -1,13 +1,13 @@
 //! Lines of a tenants text, with values in words.
 
 use crate::batch_text::BatchFault;
-use crate::fault::WordFault;
+use crate::fault::ArgumentFault;
 use crate::request::value_in;
 use hdl_value::write_value;
 use std::alloc::{AllocError, Global};
 
 /// A value's line in hexadecimal digits.
-fn value_in_digits(alloc: Global, handle: &str, words: &str) -> Result<String, WordFault> {
+fn value_in_digits(alloc: Global, handle: &str, words: &str) -> Result<String, ArgumentFault> {
     let value = value_in(alloc, words)?;
     let octets = write_value(alloc, &value)?;
     let digits = hex::encode(alloc, &octets)?;
@@ -15,9 +15,9 @@ fn value_in_digits(alloc: Global, handle: &str, words: &str) -> Result<String, W
 }
 
 /// The line as the tenants text has it.
-fn line_of(alloc: Global, line: &str) -> Result<String, WordFault> {
+fn line_of(alloc: Global, line: &str) -> Result<String, ArgumentFault> {
     if line.starts_with('\u{feff}') {
-        return Err(WordFault::Mark);
+        return Err(ArgumentFault::Mark);
     }
     if let Some(("value", rest)) = line.split_once(' ') {
         if let Some((handle, words)) = rest.split_once(' ') {
@@ -37,7 +37,7 @@ pub fn tenants_faults(alloc: Global, text: &str) -> Result<Vec<BatchFault>, Allo
         number = number.saturating_add(1);
         match line_of(alloc, line) {
             Ok(_) => {}
-            Err(WordFault::Memory) => return Err(AllocError),
+            Err(ArgumentFault::Memory) => return Err(AllocError),
             Err(fault) => faults.push(BatchFault {
                 line: number,
                 fault,
@@ -57,7 +57,7 @@ pub fn write_tenants(alloc: Global, text: &str) -> Result<String, BatchFault> {
         let fault = match line_of(alloc, line) {
             Ok(line) => match out.push_str(&line) {
                 Ok(()) => continue,
-                Err(_) => WordFault::Memory,
+                Err(_) => ArgumentFault::Memory,
             },
             Err(fault) => fault,
         };

@@ -27,15 +27,15 @@ use std::rt::Clock;
 use std::thread::{JoinHandle, Threads};
 
 /// How many items a lane's ring has room for, each way.
-const RING: usize = 16;
+const RING_ITEMS: usize = 16;
 
 /// The sleep of the thread that serves, the sockets of each publisher, what is said once all of them listen and the lines that tell where they are, and the sockets at which the server is
 /// watched.
 #[derive(Drop)]
-pub(crate) struct Opened {
+pub(crate) struct OpenedSockets {
     pub(crate) idle_poll: IdlePoll,
     publishers: Vec<PublisherSockets<OverflowLane>>,
-    begins: String,
+    startup_line: String,
     lines: String,
     monitoring_sockets: MonitoringSockets,
 }
@@ -47,7 +47,7 @@ pub(crate) struct PreparedServer {
     ends: Vec<LaneEnds>,
     sides: Vec<WorkerSide>,
     queue: WriteQueue,
-    pub(crate) opened: Opened,
+    pub(crate) opened: OpenedSockets,
     monitor: ResourceMonitor,
     turns: u64,
     ghost distinct: { AreDistinct ends.items },
@@ -67,7 +67,7 @@ fn open_sockets<R: Net<Listener = TcpListener, Stream = TcpStream> + Clock + Fil
     alloc: Global,
     tenants: &Tenants,
     config: &mut ServerConfig,
-) -> Result<Opened, HostFault> {
+) -> Result<OpenedSockets, HostFault> {
     let most = CallTimeouts::of(config.limits.turns).events;
     let idle_poll = or_device_fault(IdlePoll::new(rt, alloc, most))?;
     let (publishers, lines) = open_publishers(rt, alloc, tenants, config)?;
@@ -77,11 +77,11 @@ fn open_sockets<R: Net<Listener = TcpListener, Stream = TcpStream> + Clock + Fil
         &mut config.monitoring,
         publishers.as_slice(),
     )?;
-    let begins = mem::replace(&mut config.monitoring.begins, String::new(alloc));
-    Ok(Opened {
+    let startup_line = mem::replace(&mut config.monitoring.startup_line, String::new(alloc));
+    Ok(OpenedSockets {
         idle_poll,
         publishers,
-        begins,
+        startup_line,
         lines,
         monitoring_sockets,
     })
@@ -94,7 +94,7 @@ fn prepare_lanes<R: Net<Listener = TcpListener, Stream = TcpStream> + Clock + Fi
     tenants: &Tenants,
     config: &mut ServerConfig,
 ) -> Result<PreparedServer, HostFault> {
-    let (ends, sides) = lanes_of(alloc, tenants.lanes(), RING)?;
+    let (ends, sides) = lanes_of(alloc, tenants.lanes(), RING_ITEMS)?;
     let queue = WriteQueue::with_capacity(alloc, ends.len())?;
     let opened = open_sockets(rt, alloc, tenants, config)?;
     let monitor = resource_monitor_of(&mut config.monitoring)?;
@@ -167,7 +167,7 @@ impl<T: Owing + Drop> LaneServer for Service<T> {
 
 /// The workers that run, what is looked at meanwhile, and the sleep of the thread that serves them.
 #[derive(Drop)]
-struct Started {
+struct StartedWorkers {
     workers: Vec<JoinHandle<WorkerEnd>>,
     active: ActiveMonitoring,
     idle_poll: IdlePoll,
@@ -177,11 +177,11 @@ struct Started {
 fn start_all<R: Threads + Clock + RandomSource + Eprint + Copy + Send + Drop + 'static>(
     rt: &R,
     alloc: Global,
-    opened: Opened,
+    opened: OpenedSockets,
     sides: Vec<WorkerSide>,
     turns: u64,
-) -> Result<Started, Fault> {
-    let Opened {
+) -> Result<StartedWorkers, Fault> {
+    let OpenedSockets {
         idle_poll,
         publishers,
         monitoring_sockets,
@@ -189,7 +189,7 @@ fn start_all<R: Threads + Clock + RandomSource + Eprint + Copy + Send + Drop + '
     } = opened;
     let active = monitoring_sockets.start(rt, alloc)?;
     let workers = start_workers(rt, alloc, publishers, sides, &idle_poll, turns)?;
-    Ok(Started {
+    Ok(StartedWorkers {
         workers,
         active,
         idle_poll,
@@ -210,7 +210,7 @@ fn run_workers<
         turns,
         ..
     } = ready;
-    let Started {
+    let StartedWorkers {
         workers,
         active,
         idle_poll,
@@ -234,8 +234,8 @@ pub(crate) fn announce_and_serve<
     S: LaneServer + Drop,
     W: Write,
 >(rt: &R, alloc: Global, service: S, ready: PreparedServer, output: &mut W) -> Result<S, Fault> {
-    let begins = ready.opened.begins.as_str();
-    let _ = eprint!(rt; "{begins}");
+    let startup_line = ready.opened.startup_line.as_str();
+    let _ = eprint!(rt; "{startup_line}");
     put_all(output, ready.opened.lines.as_bytes())?;
     run_workers(rt, alloc, service, ready)
 }

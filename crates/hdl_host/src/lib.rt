@@ -16,7 +16,7 @@
 //! ```rust
 //! // crates/handled/src/serving.rt
 //! host_tenants(machine, rt.alloc(), rows, tenants, setting, &mut output)?;
-//! say_ends(rt, &health, shutdown.is_requested());
+//! report_end(rt, &health, shutdown.is_requested());
 //! ```
 #![tactic(auto)]
 
@@ -28,7 +28,7 @@ mod sharing;
 pub use bounds::{Notices, notices_of};
 pub use hdl_boundedrows::{Amount, Bound};
 pub use hdl_listeners::{
-    AMPLIFY, HostFault, Limits, Monitoring, REOPEN, STOP, ServerConfig, descriptors_for,
+    AMPLIFY_DEFAULT, HostFault, Limits, Monitoring, REOPEN, STOP, ServerConfig, descriptors_for,
 };
 pub use hdl_sockets::ShutdownFlag;
 pub use hdl_telemetry::{FileChange, FileWatch, Health, Log, LogFile, Notice};

@@ -11,7 +11,7 @@ use std::sync::Arc;
 use std::time::{Duration, Instant};
 
 /// Seconds between two looks.
-const PAUSE: u64 = 2;
+const PAUSE_SECONDS: u64 = 2;
 
 /// The table's file and that of the log, if there are any, and what is informed of what is seen.
 #[derive(Drop)]
@@ -74,7 +74,8 @@ impl<R: Clock + Files> MonitoringClock<R> {
             return false;
         };
         let is_due = match self.checked {
-            Some(checked) => now.saturating_duration_since(checked) >= Duration::from_secs(PAUSE),
+            Some(checked) => now.saturating_duration_since(checked)
+                >= Duration::from_secs(PAUSE_SECONDS),
             None => true,
         };
         if is_due {

@@ -1,6 +1,6 @@
 //! Several clients at a time on one thread, none of which holds another up.
 
-use hdl_sockets::nothing_came;
+use hdl_sockets::is_no_data;
 use std::alloc::Global;
 use std::collections::VecDeque;
 use std::io::{self, Read, Write};
@@ -14,7 +14,7 @@ use std::time::{Duration, Instant};
 const CLIENTS_MOST: usize = 32;
 
 /// For how many seconds a client may take to ask, and to take its answer.
-const TIMEOUT: u64 = 5;
+const TIMEOUT_SECONDS: u64 = 5;
 
 /// How many octets of a request are read at most, and at a time.
 const REQUEST_MOST: usize = 4096;
@@ -22,9 +22,9 @@ const REQUEST_MOST: usize = 4096;
 const CHUNK: usize = 1024;
 
 /// For how many milliseconds the thread sleeps that waits for slow clients, and after a client that the machine had no room for.
-const PAUSE: u64 = 5;
+const PAUSE_MILLIS: u64 = 5;
 
-const RETRY_AFTER: u64 = 500;
+const RETRY_MILLIS: u64 = 500;
 
 /// What the octets of a client come to.
 #[derive(Drop)]
@@ -93,7 +93,7 @@ fn write_some<S: Write>(stream: &mut S, octets: &[u8]) -> (usize, ClientState) {
         };
         match stream.write(rest) {
             Ok(count) if count > 0 => written = written.saturating_add(count),
-            Err(e) if nothing_came(e.kind()) => return (written, ClientState::Active),
+            Err(e) if is_no_data(e.kind()) => return (written, ClientState::Active),
             _ => break,
         }
     }
@@ -161,7 +161,7 @@ impl<S: Read + Write + Drop> Client<S> {
         let mut octets = [0; CHUNK];
         match self.stream.read(&mut octets) {
             Ok(count) if count > 0 => self.note_octets(alloc, handler, &octets[..count.min(CHUNK)]),
-            Err(e) if nothing_came(e.kind()) => ClientState::Active,
+            Err(e) if is_no_data(e.kind()) => ClientState::Active,
             _ => ClientState::Closed,
         }
     }
@@ -174,7 +174,7 @@ impl<S: Read + Write + Drop> Client<S> {
         now: Option<Instant>,
     ) -> ClientState {
         if let (Some(came), Some(now)) = (self.came, now) {
-            if now.saturating_duration_since(came) > Duration::from_secs(TIMEOUT) {
+            if now.saturating_duration_since(came) > Duration::from_secs(TIMEOUT_SECONDS) {
                 return ClientState::Closed;
             }
         }
@@ -236,12 +236,12 @@ pub fn serve_clients<R: Clock, G: ClientListener, D: RequestHandler>(
         let may_wait = clients.active.is_empty();
         match listener.accept(may_wait) {
             Ok(stream) => clients.add(Client::new(alloc, stream, Instant::now(rt).ok())),
-            Err(e) if nothing_came(e.kind()) => {
+            Err(e) if is_no_data(e.kind()) => {
                 if !may_wait {
-                    thread::sleep(rt, Duration::from_millis(PAUSE));
+                    thread::sleep(rt, Duration::from_millis(PAUSE_MILLIS));
                 }
             }
-            Err(_) => thread::sleep(rt, Duration::from_millis(RETRY_AFTER)),
+            Err(_) => thread::sleep(rt, Duration::from_millis(RETRY_MILLIS)),
         }
         clients.advance_all(alloc, handler, Instant::now(rt).ok());
     }

@@ -37,7 +37,7 @@ mod workers;
 pub use control::{REOPEN, STOP, remove_socket};
 pub use fault::HostFault;
 pub use listening::{
-    AMPLIFY, Limits, PublisherSockets, ServerConfig, descriptors_for, open_publishers,
+    AMPLIFY_DEFAULT, Limits, PublisherSockets, ServerConfig, descriptors_for, open_publishers,
     or_device_fault,
 };
 pub use monitoring::{ActiveMonitoring, Monitoring, MonitoringSockets, open_monitoring};

@@ -22,10 +22,10 @@ pub struct Limits {
     /// How many turns each worker and the service have.
     pub turns: u64,
     /// For how many seconds a connection may say nothing while another client of its publisher waits.
-    pub idle: u32,
+    pub idle_seconds: u32,
     /// How many connections the overflow lane of a publisher has at most, where it has one. 0: none has.
     pub crowd: u32,
-    /// How many times the octets that asked a reply over UDP may have, to an address that answered no challenge lately. None: `AMPLIFY` times,
+    /// How many times the octets that asked a reply over UDP may have, to an address that answered no challenge lately. None: `AMPLIFY_DEFAULT` times,
     /// and on loopback as many as it has.
     pub amplify: Option<u32>,
     /// How many octets of memory are kept aside: what takes more is refused where less is left.
@@ -33,13 +33,13 @@ pub struct Limits {
 }
 
 /// How many times the octets that asked a reply over UDP may have, where nothing else is said, and the server listens beyond loopback.
-pub const AMPLIFY: u32 = 8;
+pub const AMPLIFY_DEFAULT: u32 = 8;
 
 impl Limits {
     /// No end of turns, a minute of silence, a thousand connections, and 64 MiB.
     pub const DEFAULT: Limits = Limits {
         turns: u64::MAX,
-        idle: 60,
+        idle_seconds: 60,
         crowd: 1000,
         amplify: None,
         reserve: 67_108_864,
@@ -49,7 +49,7 @@ impl Limits {
     fn times_at(self, address: IpAddr) -> Option<u32> {
         match self.amplify {
             None if address.is_loopback() => None,
-            None => Some(AMPLIFY),
+            None => Some(AMPLIFY_DEFAULT),
             times => times,
         }
     }
@@ -87,18 +87,18 @@ impl ServerConfig {
 const LANES_WITH_OVERFLOW: u16 = 4;
 
 /// How many descriptors each lane wants in addition to its crowd, and the program in addition to its lanes.
-const OF_LANE: u64 = 4;
+const DESCRIPTORS_PER_LANE: u64 = 4;
 
-const OF_PROGRAM: u64 = 10;
+const DESCRIPTORS_OF_PROGRAM: u64 = 10;
 
 /// How many descriptors the lanes and crowds of these publishers may want.
 pub fn descriptors_for(tenants: &Tenants, limits: Limits) -> u64 {
-    let mut sum = OF_PROGRAM;
+    let mut sum = DESCRIPTORS_OF_PROGRAM;
     for place in 0..tenants.publishers() {
         let Some((_, lanes, _)) = tenants.publisher(place) else {
             break;
         };
-        sum = sum.saturating_add(OF_LANE.saturating_mul(u64::from(lanes)));
+        sum = sum.saturating_add(DESCRIPTORS_PER_LANE.saturating_mul(u64::from(lanes)));
         if lanes >= LANES_WITH_OVERFLOW {
             sum = sum.saturating_add(u64::from(limits.crowd));
         }
@@ -120,7 +120,7 @@ pub struct PublisherSockets<C> {
 
 /// What is opened at the addresses of a publisher.
 #[derive(Drop)]
-struct Opened {
+struct OpenedSockets {
     listeners: Vec<TcpListener>,
     sockets: Vec<PacketSocket>,
 }
@@ -148,7 +148,7 @@ fn open<R: Net<Listener = TcpListener, Stream = TcpStream>>(
     config: &ServerConfig,
     publisher: (&str, u16),
     lines: &mut String,
-) -> Result<Opened, HostFault> {
+) -> Result<OpenedSockets, HostFault> {
     let (name, port) = publisher;
     let mut listeners = Vec::new(alloc);
     let mut sockets = Vec::new(alloc);
@@ -165,7 +165,7 @@ fn open<R: Net<Listener = TcpListener, Stream = TcpStream>>(
         let line = format!(in alloc; "{name} {at}\n")?;
         lines.push_str(line.as_str())?;
     }
-    Ok(Opened { listeners, sockets })
+    Ok(OpenedSockets { listeners, sockets })
 }
 
 /// The overflow lane, which takes the last lane's listener, where there is to be one.
@@ -212,16 +212,16 @@ fn listeners_and_overflow<R: Net + Clock>(
 fn sockets_of<R: Net + Clock>(
     rt: &R,
     alloc: Global,
-    opened: Opened,
+    opened: OpenedSockets,
     publisher: (&str, u16),
     config: &mut ServerConfig,
 ) -> io::Result<PublisherSockets<OverflowLane>> {
-    let Opened { listeners, sockets } = opened;
+    let OpenedSockets { listeners, sockets } = opened;
     let (name, lanes) = publisher;
     let limits = config.limits;
     let listener_config = ListenerConfig {
         door: CallTimeouts::of(limits.turns).door,
-        idle: limits.idle,
+        idle_seconds: limits.idle_seconds,
         shutdown: Arc::try_clone(&config.monitoring.shutdown)?,
         proxied: config.monitoring.proxied,
     };

@@ -26,13 +26,13 @@ use std::{io, thread};
 /// How many times a server that ends looks whether all lines are written, and for how many milliseconds it waits each time.
 const CHECKS_MOST: u32 = 100;
 
-const CHECK_EACH: u64 = 20;
+const CHECK_MILLIS: u64 = 20;
 
 /// What a server tells of itself, and how it takes the word to end.
 #[derive(Drop)]
 pub struct Monitoring {
     /// What is said on standard error once the server listens.
-    pub begins: String,
+    pub startup_line: String,
     /// Where a line of each change goes, and what opens its file anew, if it is one.
     pub log: Option<Log>,
     pub log_file: Option<LogFile>,
@@ -60,7 +60,7 @@ impl Monitoring {
     /// No log, no status page, no control socket.
     pub fn none(alloc: Global) -> Result<Monitoring, AllocError> {
         Ok(Monitoring {
-            begins: String::new(alloc),
+            startup_line: String::new(alloc),
             log: None,
             log_file: None,
             status: None,
@@ -132,7 +132,7 @@ impl ActiveMonitoring {
             if self.is_reported() {
                 break;
             }
-            thread::sleep(rt, Duration::from_millis(CHECK_EACH));
+            thread::sleep(rt, Duration::from_millis(CHECK_MILLIS));
         }
     }
 }

@@ -8,7 +8,7 @@ use std::thread;
 use std::time::Duration;
 
 /// Milliseconds between two looks for what is due.
-const PAUSE: u64 = 50;
+const PAUSE_MILLIS: u64 = 50;
 
 /// What may have to be said: of the table, of the bounds of publishers, and of the log, where there is one.
 #[derive(Drop)]
@@ -76,6 +76,6 @@ impl Reporter {
 pub fn run_reporter<R: Clock + Eprint>(rt: &R, reporter: &Reporter) {
     for _ in 0..u64::MAX {
         reporter.print_due(rt);
-        thread::sleep(rt, Duration::from_millis(PAUSE));
+        thread::sleep(rt, Duration::from_millis(PAUSE_MILLIS));
     }
 }

@@ -118,7 +118,7 @@ impl StatusPage {
 
     /// Puts what is known of memory.
     fn put_memory<W: fmt::Write>(&self, out: &mut W) -> fmt::Result {
-        let short = u8::from(self.health.is_short());
+        let short = u8::from(self.health.is_memory_short());
         writeln!(
             out,
             "# HELP handled_memory_short 1 while less memory is left than is kept aside.\n# TYPE handled_memory_short gauge\nhandled_memory_short {short}"

@@ -1,6 +1,6 @@
 pub mod Route
 pub mod Order
-pub mod Miss
-pub mod Standing
+pub mod Failure
+pub mod ServerHealth
 pub mod Changes
-pub mod KeptReplies
+pub mod ReplyCache

@@ -40,9 +40,9 @@ abbrev pub known_first : Option ℕ → List ℕ → List ℕ
 known_first known places = filter (is_known known) places ++ filter (λ place. not (is_known known place)) places
 
 -- standbys are asked behind all others
-abbrev pub places_for : Option ℕ → List ℕ → List Route → List ℕ
-places_for known prefix routes = known_first known (servers_for prefix routes) ++ standbys_for prefix routes
+abbrev pub servers_to_ask : Option ℕ → List ℕ → List Route → List ℕ
+servers_to_ask known prefix routes = known_first known (servers_for prefix routes) ++ standbys_for prefix routes
 
 -- a change goes to no standby: to the first alone of the servers that were named with the prefix, and where none was to those that were named without prefixes, in turn
-abbrev pub places_to_change : List ℕ → List Route → List ℕ
-places_to_change prefix routes = if is_named prefix routes then take 1 (servers_for prefix routes) else servers_for prefix routes
+abbrev pub servers_to_change : List ℕ → List Route → List ℕ
+servers_to_change prefix routes = if is_named prefix routes then take 1 (servers_for prefix routes) else servers_for prefix routes

@@ -2,10 +2,10 @@
 //!
 //! ```text
 //! HOST:PORT=PREFIX,..  -> read_route -> Route
-//! a prefix, the routes -> places_for -> the servers that are asked, in turn; places_to_change -> those to which changes go
-//! a server's standing  -> Standing::admits -> whether it is asked now
+//! a prefix, the routes -> servers_to_ask -> the servers that are asked, in turn; servers_to_change -> those to which changes go
+//! a server's standing  -> ServerHealth::admits -> whether it is asked now
 //! no good answer       -> worst -> what a browser is told
-//! a request, its reply -> KeptReplies::keep, find -> the reply, while it is fresh
+//! a request, its reply -> ReplyCache::keep, find -> the reply, while it is fresh
 //! ```
 //!
 //! This crate has no sockets, no threads and no clock: moments are milliseconds that the caller gives. It promises that a prefix is
@@ -20,22 +20,22 @@
 //! } else {
 //!     None
 //! };
-//! places_for(self.alloc, &self.routes, prefix, known)
+//! servers_to_ask(self.alloc, &self.routes, prefix, known)
 //! ```
 #![tactic(auto)]
 
 mod changes;
+mod failure;
 mod fault;
-mod kept;
-mod miss;
 mod order;
+mod reply_cache;
 mod route;
-mod standing;
+mod server_health;
 
-pub use changes::Mark;
+pub use changes::ChangeMark;
+pub use failure::{Failure, worst};
 pub use fault::RouteFault;
-pub use kept::{KeptReplies, REPLIES_MOST, REPLY_MOST};
-pub use miss::{Miss, worst};
-pub use order::{places_for, places_to_change};
+pub use order::{servers_to_ask, servers_to_change};
+pub use reply_cache::{REPLIES_MOST, REPLY_MOST, ReplyCache};
 pub use route::{Route, read_route};
-pub use standing::{LEFT_OUT, Standing};
+pub use server_health::{LEFT_OUT_MILLIS, ServerHealth};

@@ -1,7 +1,7 @@
 //! Which servers to ask for a handle.
 
 ghost use Rattle.std.specs.Prelude.{◌≡◌, IfOk, filter, not};
-ghost use Rattle.hdl_routes.specs.Order.{has, is_open, is_named, is_asked, servers_for, standbys_for, is_known, known_first, places_for, places_to_change};
+ghost use Rattle.hdl_routes.specs.Order.{has, is_open, is_named, is_asked, servers_for, standbys_for, is_known, known_first, servers_to_ask, servers_to_change};
 
 use crate::route::Route;
 use std::alloc::{AllocError, Global};
@@ -117,13 +117,13 @@ fn standbys_for(alloc: Global, routes: &[Route], prefix: &[u8]) -> Result<Vec<us
 
 /// The places of the servers that are asked for handles of this prefix, in turn: of those that were named with it, or if none was of those that were
 /// named without prefixes, in the order of the command line. The one that is known to have the prefix comes first, unless it is a standby; standbys come last.
-pub fn places_for(
+pub fn servers_to_ask(
     alloc: Global,
     routes: &[Route],
     prefix: &[u8],
     known: Option<usize>,
 ) -> Result<Vec<usize>, AllocError>
-    ensures { IfOk result (λ turn. turn.items ≡ places_for known prefix.now routes.now) }
+    ensures { IfOk result (λ turn. turn.items ≡ servers_to_ask known prefix.now routes.now) }
 {
     let servers = servers_for(alloc, routes, prefix)?;
     let mut turn = known_first(alloc, &servers, known)?;
@@ -134,12 +134,12 @@ pub fn places_for(
 
 /// The places of the servers to which changes of handles of this prefix go, in the order of the command line: the first one alone of those that were named
 /// with it, and if none was those that were named without prefixes, of which the first that doesn't refer elsewhere is the only one. No change goes to a standby.
-pub fn places_to_change(
+pub fn servers_to_change(
     alloc: Global,
     routes: &[Route],
     prefix: &[u8],
 ) -> Result<Vec<usize>, AllocError>
-    ensures { IfOk result (λ places. places.items ≡ places_to_change prefix.now routes.now) }
+    ensures { IfOk result (λ places. places.items ≡ servers_to_change prefix.now routes.now) }
 {
     let mut places = servers_for(alloc, routes, prefix)?;
     if is_named(routes, prefix) {

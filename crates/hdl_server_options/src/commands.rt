@@ -76,7 +76,7 @@ fn serve_command<'a>(alloc: Global) -> Result<Command<'a>, AllocError> {
             "Opens each publisher's port at this IPv4 or IPv6 address; may be repeated; 127.0.0.1 by default",
         ))?;
     let command = bound_args(alloc, limit_args(alloc, command)?)?;
-    let command = table_args(alloc, supervision_args(alloc, command)?)?;
+    let command = table_args(alloc, monitoring_args(alloc, command)?)?;
     let command = command.arg(read_only_arg(alloc)?)?;
     cluster_args(alloc, command)
 }
@@ -179,7 +179,7 @@ fn bound_args<'a>(alloc: Global, command: Command<'a>) -> Result<Command<'a>, Al
 }
 
 /// The options of `serve` by which a server is watched and ended.
-fn supervision_args<'a>(alloc: Global, command: Command<'a>) -> Result<Command<'a>, AllocError> {
+fn monitoring_args<'a>(alloc: Global, command: Command<'a>) -> Result<Command<'a>, AllocError> {
     command
         .arg(option(
             alloc,

@@ -24,7 +24,7 @@ pub struct ClusterOptions {
 
 /// A word after `--bound`: a publisher's name, and how many values and octets it may hold at most.
 #[derive(Drop)]
-pub struct BoundWord {
+pub struct BoundOption {
     pub publisher: String,
     pub values: u64,
     pub octets: u64,
@@ -35,7 +35,7 @@ pub struct BoundWord {
 pub struct LimitOptions {
     pub turns: Option<u64>,
     /// For how many seconds a connection may be silent while another client waits.
-    pub idle: Option<u32>,
+    pub idle_seconds: Option<u32>,
     pub amplify: Option<u32>,
     /// How many connections an overflow lane serves at most.
     pub crowd: Option<u32>,
@@ -45,7 +45,7 @@ pub struct LimitOptions {
 
 /// The options of `serve` by which a server is watched and ended.
 #[derive(Drop)]
-pub struct SupervisionOptions {
+pub struct MonitoringOptions {
     /// The path of the log of changes, `-` for standard error.
     pub log: Option<String>,
     pub status: Option<SocketAddr>,
@@ -63,9 +63,9 @@ pub struct ServeOptions {
     /// Where each publisher's port is opened: at least one address.
     pub addresses: Vec<IpAddr>,
     pub limits: LimitOptions,
-    pub supervision: SupervisionOptions,
+    pub monitoring: MonitoringOptions,
     /// The bounds, at most one per publisher.
-    pub bounds: Vec<BoundWord>,
+    pub bounds: Vec<BoundOption>,
     /// Whether changes are taken.
     pub takes_changes: bool,
     /// How many octets the handles that were read last may take.

@@ -22,15 +22,15 @@
 //! ```
 #![tactic(auto)]
 
+mod argument_fault;
 mod commands;
 mod invocation;
 mod reading;
 mod serving;
-mod unclear;
 mod values;
 
 pub use invocation::{
-    BoundWord, ClusterOptions, ExportOptions, ExportSource, Invocation, LimitOptions, OptionsFault,
-    ServeOptions, SupervisionOptions, TableFile,
+    BoundOption, ClusterOptions, ExportOptions, ExportSource, Invocation, LimitOptions,
+    MonitoringOptions, OptionsFault, ServeOptions, TableFile,
 };
 pub use reading::read_options;

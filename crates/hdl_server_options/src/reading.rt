@@ -1,49 +1,49 @@
 //! Reading the command line.
 
+use crate::argument_fault::{ArgumentFault, print_argument_fault};
 use crate::commands::command;
 use crate::invocation::{ExportOptions, ExportSource, Invocation, OptionsFault, TableFile};
 use crate::serving::{addresses, cluster, serve_options};
-use crate::unclear::{Unclear, print_unclear};
 use crate::values::{copy_of, required, table_file};
 use clap::ArgMatches;
 use hdl_programs::{status_of_words, words_of};
 use std::alloc::Global;
 
 /// What is asked for by the words after `copy`.
-fn copy_options(alloc: Global, found: &ArgMatches) -> Result<Invocation, Unclear> {
+fn copy_options(alloc: Global, found: &ArgMatches) -> Result<Invocation, ArgumentFault> {
     let from = required(alloc, found, "table")?;
     let to = required(alloc, found, "to")?;
     Ok(Invocation::Copy { from, to })
 }
 
 /// What is asked for by the words after `restore`.
-fn restore_options(alloc: Global, found: &ArgMatches) -> Result<Invocation, Unclear> {
+fn restore_options(alloc: Global, found: &ArgMatches) -> Result<Invocation, ArgumentFault> {
     let from = required(alloc, found, "from")?;
     let table = required(alloc, found, "table")?;
     Ok(Invocation::Restore { from, table })
 }
 
 /// What is asked for by the words after `check`.
-fn check_options(alloc: Global, found: &ArgMatches) -> Result<Invocation, Unclear> {
+fn check_options(alloc: Global, found: &ArgMatches) -> Result<Invocation, ArgumentFault> {
     let text = copy_of(alloc, found.get_str("text"))?;
     let addresses = addresses(alloc, found.get_strs("listen").unwrap_or(&[]))?;
     Ok(Invocation::Check { text, addresses })
 }
 
 /// What is asked for by the words after `stop`.
-fn stop_options(alloc: Global, found: &ArgMatches) -> Result<Invocation, Unclear> {
+fn stop_options(alloc: Global, found: &ArgMatches) -> Result<Invocation, ArgumentFault> {
     let control = required(alloc, found, "control")?;
     Ok(Invocation::Stop { control })
 }
 
 /// What is asked for by the words after `reopen`.
-fn reopen_options(alloc: Global, found: &ArgMatches) -> Result<Invocation, Unclear> {
+fn reopen_options(alloc: Global, found: &ArgMatches) -> Result<Invocation, ArgumentFault> {
     let control = required(alloc, found, "control")?;
     Ok(Invocation::Reopen { control })
 }
 
 /// Where the table is that is exported.
-fn export_source(alloc: Global, found: &ArgMatches) -> Result<ExportSource, Unclear> {
+fn export_source(alloc: Global, found: &ArgMatches) -> Result<ExportSource, ArgumentFault> {
     if let Some(cluster) = cluster(alloc, found)? {
         return Ok(ExportSource::Cluster(cluster));
     }
@@ -55,7 +55,7 @@ fn export_source(alloc: Global, found: &ArgMatches) -> Result<ExportSource, Uncl
 }
 
 /// What is asked for by the words after `export`.
-fn export_options(alloc: Global, found: &ArgMatches) -> Result<Invocation, Unclear> {
+fn export_options(alloc: Global, found: &ArgMatches) -> Result<Invocation, ArgumentFault> {
     let source = export_source(alloc, found)?;
     let text = copy_of(alloc, found.get_str("text"))?;
     let publisher = copy_of(alloc, found.get_str("publisher"))?;
@@ -69,7 +69,7 @@ fn export_options(alloc: Global, found: &ArgMatches) -> Result<Invocation, Uncle
 }
 
 /// What is asked for by the words that `clap` took.
-fn invocation_of(alloc: Global, matches: &ArgMatches) -> Result<Invocation, Unclear> {
+fn invocation_of(alloc: Global, matches: &ArgMatches) -> Result<Invocation, ArgumentFault> {
     if let Some(found) = matches.subcommand_matches("check") {
         return check_options(alloc, found);
     }
@@ -99,7 +99,7 @@ fn invocation_of(alloc: Global, matches: &ArgMatches) -> Result<Invocation, Uncl
     }
 }
 
-fn parse(alloc: Global, words: &[String]) -> Result<Invocation, Unclear> {
+fn parse(alloc: Global, words: &[String]) -> Result<Invocation, ArgumentFault> {
     let matches = command(alloc)?.try_get_matches_from(words)?;
     invocation_of(alloc, &matches)
 }
@@ -115,6 +115,6 @@ pub fn read_options(rt: &HostRuntime) -> Result<Invocation, OptionsFault> {
     };
     match parse(rt.alloc(), words.as_slice()) {
         Ok(asked) => Ok(asked),
-        Err(unclear) => Ok(Invocation::Ended(print_unclear(rt, words.as_slice(), unclear)?)),
+        Err(fault) => Ok(Invocation::Ended(print_argument_fault(rt, words.as_slice(), fault)?)),
     }
 }

@@ -1,16 +1,16 @@
 //! The options of `serve`.
 
+use crate::argument_fault::ArgumentFault;
 use crate::invocation::{
-    BoundWord, ClusterOptions, LimitOptions, ServeOptions, SupervisionOptions,
+    BoundOption, ClusterOptions, LimitOptions, MonitoringOptions, ServeOptions,
 };
-use crate::unclear::Unclear;
 use crate::values::{copy_of, table_file};
 use clap::ArgMatches;
 use std::alloc::{AllocError, Global};
 use std::net::{IpAddr, Ipv4Addr, SocketAddr};
 
 /// The number of octets after an option.
-fn octets_behind(found: &ArgMatches, option: &str) -> Option<usize> {
+fn octets_after(found: &ArgMatches, option: &str) -> Option<usize> {
     let octets = found.get_one::<u64>(option)?;
     Some(usize::try_from(octets).unwrap_or(usize::MAX))
 }
@@ -19,10 +19,10 @@ fn octets_behind(found: &ArgMatches, option: &str) -> Option<usize> {
 fn limits(found: &ArgMatches) -> LimitOptions {
     LimitOptions {
         turns: found.get_one::<u64>("turns"),
-        idle: found.get_one::<u32>("idle"),
+        idle_seconds: found.get_one::<u32>("idle"),
         amplify: found.get_one::<u32>("amplify"),
         crowd: found.get_one::<u32>("crowd"),
-        reserve: octets_behind(found, "reserve"),
+        reserve: octets_after(found, "reserve"),
     }
 }
 
@@ -43,17 +43,17 @@ fn is_link_local(address: &IpAddr) -> bool {
 }
 
 /// The addresses after `--listen`, each of which has to be one that ports can be opened at, and another one; 127.0.0.1 where there is none.
-pub fn addresses(alloc: Global, words: &[&str]) -> Result<Vec<IpAddr>, Unclear> {
+pub fn addresses(alloc: Global, words: &[&str]) -> Result<Vec<IpAddr>, ArgumentFault> {
     let mut addresses = Vec::new(alloc);
     for word in words {
         let Some(address) = address_of(word) else {
-            return Err(Unclear::Address(String::from_str(alloc, word)?));
+            return Err(ArgumentFault::Address(String::from_str(alloc, word)?));
         };
         if is_link_local(&address) {
-            return Err(Unclear::LinkLocal(String::from_str(alloc, word)?));
+            return Err(ArgumentFault::LinkLocal(String::from_str(alloc, word)?));
         }
         if addresses.contains(&address) {
-            return Err(Unclear::AddressTwice(String::from_str(alloc, word)?));
+            return Err(ArgumentFault::AddressTwice(String::from_str(alloc, word)?));
         }
         addresses.push(address).map_err(AllocError::from)?;
     }
@@ -80,24 +80,24 @@ fn bound_parts(word: &str) -> Option<(&str, u64, u64)> {
 }
 
 /// Whether one of the bounds is this publisher's.
-fn is_bounded(bounds: &[BoundWord], publisher: &str) -> bool {
+fn is_bounded(bounds: &[BoundOption], publisher: &str) -> bool {
     bounds
         .iter()
         .any(|bound| bound.publisher.as_str() == publisher)
 }
 
 /// The bounds that the words spell, each of another publisher.
-fn bound_words(alloc: Global, words: &[&str]) -> Result<Vec<BoundWord>, Unclear> {
+fn bound_options(alloc: Global, words: &[&str]) -> Result<Vec<BoundOption>, ArgumentFault> {
     let mut bounds = Vec::new(alloc);
     for word in words {
         let Some((publisher, values, octets)) = bound_parts(word) else {
-            return Err(Unclear::Bound(String::from_str(alloc, word)?));
+            return Err(ArgumentFault::Bound(String::from_str(alloc, word)?));
         };
         if is_bounded(&bounds, publisher) {
-            return Err(Unclear::BoundTwice(String::from_str(alloc, word)?));
+            return Err(ArgumentFault::BoundTwice(String::from_str(alloc, word)?));
         }
         let publisher = String::from_str(alloc, publisher)?;
-        let bound = BoundWord {
+        let bound = BoundOption {
             publisher,
             values,
             octets,
@@ -108,34 +108,34 @@ fn bound_words(alloc: Global, words: &[&str]) -> Result<Vec<BoundWord>, Unclear>
 }
 
 /// The address of the status page, if one is named.
-fn status_at(alloc: Global, found: &ArgMatches) -> Result<Option<SocketAddr>, Unclear> {
+fn status_at(alloc: Global, found: &ArgMatches) -> Result<Option<SocketAddr>, ArgumentFault> {
     let Some(word) = found.get_str("status") else {
         return Ok(None);
     };
     match word.parse::<SocketAddr>() {
         Ok(at) => Ok(Some(at)),
-        Err(_) => Err(Unclear::Status(String::from_str(alloc, word)?)),
+        Err(_) => Err(ArgumentFault::Status(String::from_str(alloc, word)?)),
     }
 }
 
 /// The proxy that says whose its connections are.
-fn proxied(alloc: Global, found: &ArgMatches) -> Result<Option<IpAddr>, Unclear> {
+fn proxied(alloc: Global, found: &ArgMatches) -> Result<Option<IpAddr>, ArgumentFault> {
     let Some(word) = found.get_str("proxied") else {
         return Ok(None);
     };
     match address_of(word) {
         Some(address) => Ok(Some(address)),
-        None => Err(Unclear::Proxied(String::from_str(alloc, word)?)),
+        None => Err(ArgumentFault::Proxied(String::from_str(alloc, word)?)),
     }
 }
 
 /// What the server tells of itself, and how it takes the word to end.
-fn supervision(alloc: Global, found: &ArgMatches) -> Result<SupervisionOptions, Unclear> {
+fn monitoring(alloc: Global, found: &ArgMatches) -> Result<MonitoringOptions, ArgumentFault> {
     let status = status_at(alloc, found)?;
     let proxied = proxied(alloc, found)?;
     let control = copy_of(alloc, found.get_str("control"))?;
     let log = copy_of(alloc, found.get_str("log"))?;
-    Ok(SupervisionOptions {
+    Ok(MonitoringOptions {
         log,
         status,
         control,
@@ -160,11 +160,11 @@ fn is_member(word: &str) -> bool {
 }
 
 /// The members that a word spells, with commas between them.
-fn members_of(alloc: Global, words: &str) -> Result<Vec<String>, Unclear> {
+fn members_of(alloc: Global, words: &str) -> Result<Vec<String>, ArgumentFault> {
     let mut members = Vec::new(alloc);
     for word in words.split(',') {
         if !is_member(word) {
-            return Err(Unclear::Member(String::from_str(alloc, word)?));
+            return Err(ArgumentFault::Member(String::from_str(alloc, word)?));
         }
         members
             .push(String::from_str(alloc, word)?)
@@ -185,13 +185,13 @@ fn is_name(word: &str) -> bool {
 pub(crate) fn cluster(
     alloc: Global,
     found: &ArgMatches,
-) -> Result<Option<ClusterOptions>, Unclear> {
+) -> Result<Option<ClusterOptions>, ArgumentFault> {
     let Some(words) = found.get_str("cluster") else {
         return Ok(None);
     };
     let name = found.get_str("cluster-name").unwrap_or(CLUSTER_NAME);
     if !is_name(name) {
-        return Err(Unclear::ClusterName(String::from_str(alloc, name)?));
+        return Err(ArgumentFault::ClusterName(String::from_str(alloc, name)?));
     }
     Ok(Some(ClusterOptions {
         members: members_of(alloc, words)?,
@@ -200,10 +200,10 @@ pub(crate) fn cluster(
 }
 
 /// What is asked for by the words after `serve`.
-pub fn serve_options(alloc: Global, found: &ArgMatches) -> Result<ServeOptions, Unclear> {
+pub fn serve_options(alloc: Global, found: &ArgMatches) -> Result<ServeOptions, ArgumentFault> {
     let addresses = addresses(alloc, found.get_strs("listen").unwrap_or(&[]))?;
-    let supervision = supervision(alloc, found)?;
-    let bounds = bound_words(alloc, found.get_strs("bound").unwrap_or(&[]))?;
+    let monitoring = monitoring(alloc, found)?;
+    let bounds = bound_options(alloc, found.get_strs("bound").unwrap_or(&[]))?;
     let table = table_file(alloc, found)?;
     let cluster = cluster(alloc, found)?;
     let text = copy_of(alloc, found.get_str("text"))?;
@@ -211,10 +211,10 @@ pub fn serve_options(alloc: Global, found: &ArgMatches) -> Result<ServeOptions, 
         text,
         addresses,
         limits: limits(found),
-        supervision,
+        monitoring,
         bounds,
         takes_changes: !found.get_flag("read-only"),
-        row_cache: octets_behind(found, "row-cache"),
+        row_cache: octets_after(found, "row-cache"),
         table,
         cluster,
     })

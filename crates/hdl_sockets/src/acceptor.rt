@@ -1,15 +1,15 @@
 //! Where the connections of a crowd come in: those for which no other lane of their publisher is free.
 
 use crate::lane_listener::LaneListener;
-use crate::sockets::nothing_came;
+use crate::sockets::is_no_data;
 use std::net::TcpStream;
 use std::time::Duration;
 
 /// For how many milliseconds no client is accepted once the machine had no room for a connection.
-const REFUSE_FOR: u64 = 1000;
+const REFUSE_MILLIS: u64 = 1000;
 
 /// In how many milliseconds is looked again whether a client waits that a free lane should take.
-const RECHECK_AFTER: u64 = 1;
+const RECHECK_MILLIS: u64 = 1;
 
 /// The listeners of a crowd, shared with the other lanes of its publisher.
 #[derive(Drop)]
@@ -48,7 +48,7 @@ impl Acceptor {
         if !self.is_readable || self.is_full(count, now) {
             most
         } else if self.lane_listener.has_other_free_lane() {
-            Duration::from_millis(RECHECK_AFTER).min(most)
+            Duration::from_millis(RECHECK_MILLIS).min(most)
         } else {
             Duration::ZERO
         }
@@ -84,12 +84,12 @@ impl Acceptor {
         }
         match self.lane_listener.accept_now() {
             Ok(stream) => Some(stream),
-            Err(e) if nothing_came(e.kind()) => {
+            Err(e) if is_no_data(e.kind()) => {
                 self.is_readable = false;
                 None
             }
             Err(_) => {
-                self.accepts_from = now.saturating_add(REFUSE_FOR);
+                self.accepts_from = now.saturating_add(REFUSE_MILLIS);
                 None
             }
         }

@@ -1,7 +1,7 @@
 //! The sockets of a crowd, by place, and which of them may have something.
 
-use crate::introduction::ProxyHeader;
-use hdl_proxied::HeaderStep;
+use crate::proxy_header::ProxyHeader;
+use hdl_proxy_protocol::HeaderStep;
 use mio::net::TcpStream;
 use std::alloc::{AllocError, Global};
 use std::collections::VecDeque;

@@ -7,18 +7,18 @@ use std::thread;
 use std::time::{Duration, Instant, SystemTime};
 
 /// How many microseconds a worker's long pause sleeps at least, and at most.
-const SLEEP_LEAST: u64 = 100;
+const SLEEP_LEAST_MICROS: u64 = 100;
 
-const SLEEP_MOST: u64 = 2_000;
+const SLEEP_MOST_MICROS: u64 = 2_000;
 
 /// A worker's long pause sleeps for one part in so many of what it waited: many workers that wait for a disk or for other machines would take the processors that these need.
 const SLEEP_PART: u32 = 16;
 
 /// For how many microseconds a wait has short pauses.
-const SPIN_FOR: u64 = 30;
+const SPIN_MICROS: u64 = 30;
 
 /// If a long pause begins this many milliseconds after its wait, it says nothing of the next wait: no client asked.
-const IDLE_AFTER: u64 = 10;
+const IDLE_MILLIS: u64 = 10;
 
 /// Of the waits after one that needed a long pause, each so-manieth begins with short pauses again.
 const SPIN_AGAIN_EACH: u32 = 8;
@@ -95,8 +95,8 @@ impl<R: std::rt::Clock> MachineClock<R> {
             ThreadRole::Worker(_) => false,
         };
         if !slept {
-            let least = Duration::from_micros(SLEEP_LEAST);
-            let most = Duration::from_micros(SLEEP_MOST);
+            let least = Duration::from_micros(SLEEP_LEAST_MICROS);
+            let most = Duration::from_micros(SLEEP_MOST_MICROS);
             let part = waited / SLEEP_PART;
             thread::sleep(&self.rt, part.max(least).min(most));
         }
@@ -104,11 +104,11 @@ impl<R: std::rt::Clock> MachineClock<R> {
 
     /// Pauses, by how long ago the wait began. A wait's first pause is short in any case: a worker may have outcomes in hand.
     fn pause_after(&mut self, waited: Duration) {
-        let short = if self.is_short { SPIN_FOR } else { 0 };
+        let short = if self.is_short { SPIN_MICROS } else { 0 };
         if waited <= Duration::from_micros(short) {
             thread::yield_now();
         } else {
-            self.has_slept = waited < Duration::from_millis(IDLE_AFTER);
+            self.has_slept = waited < Duration::from_millis(IDLE_MILLIS);
             self.sleep(waited);
         }
     }

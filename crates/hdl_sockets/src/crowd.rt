@@ -6,7 +6,7 @@
 use crate::acceptor::Acceptor;
 use crate::client_sockets::ClientSockets;
 use crate::lane_listener::LaneListener;
-use crate::sockets::nothing_came;
+use crate::sockets::is_no_data;
 use hdl_crowd::Book;
 use hdl_frame::ENVELOPE_LEN;
 use hdl_limits::{MESSAGE_MAX, PEERS_MAX};
@@ -23,7 +23,7 @@ use std::time::Duration;
 const LISTENER: Token = Token(0);
 
 /// How many events are taken, clients accepted, and places looked at, in one call.
-const AT_ONCE: usize = 64;
+const STEPS_PER_POLL: usize = 64;
 
 /// How many frames are received between two looks for events.
 const FRAMES_PER_POLL: u32 = 32;
@@ -32,7 +32,7 @@ const FRAMES_PER_POLL: u32 = 32;
 const READ_AT_ONCE: usize = 8192;
 
 /// How many writes one answer is tried by before others have their turn.
-const WRITES: u32 = 64;
+const WRITES_PER_TURN: u32 = 64;
 
 /// Milliseconds between two looks at the limits of time.
 const TICK_MILLIS: u64 = 1000;
@@ -84,7 +84,7 @@ impl OverflowLane {
         Ok(OverflowLane {
             acceptor: Acceptor::new(lane_listener, most),
             poll,
-            events: Events::with_capacity(alloc, AT_ONCE)?,
+            events: Events::with_capacity(alloc, STEPS_PER_POLL)?,
             poll_timeout,
             book: Book::new(alloc),
             sockets: ClientSockets::new(alloc),
@@ -160,7 +160,7 @@ impl OverflowLane {
         if !self.acceptor.begin_accepting(self.book.len(), self.now) {
             return;
         }
-        for _ in 0..AT_ONCE {
+        for _ in 0..STEPS_PER_POLL {
             match self.acceptor.accept(self.book.len(), self.now) {
                 Some(stream) => self.admit(stream),
                 None => break,
@@ -171,7 +171,7 @@ impl OverflowLane {
 
     /// Writes what is owed at this place, as far as that goes. False: the connection is broken.
     fn flush(&mut self, place: usize) -> bool {
-        for _ in 0..WRITES {
+        for _ in 0..WRITES_PER_TURN {
             let owed = self.book.owed(place);
             if owed.is_empty() {
                 return true;
@@ -186,7 +186,7 @@ impl OverflowLane {
                 Err(e) => {
                     self.book.refuses(place, self.now);
                     self.may_have_slow = true;
-                    return nothing_came(e.kind());
+                    return is_no_data(e.kind());
                 }
             }
         }
@@ -214,7 +214,7 @@ impl OverflowLane {
         match self.sockets.read_proxy_header(place) {
             None => self.read_frames(place),
             Some(Ok(_)) => NextAtPlace::More,
-            Some(Err(e)) if nothing_came(e.kind()) => self.note_waiting(place),
+            Some(Err(e)) if is_no_data(e.kind()) => self.note_waiting(place),
             Some(Err(_)) => NextAtPlace::End,
         }
     }
@@ -231,7 +231,7 @@ impl OverflowLane {
                 Ok(()) => NextAtPlace::More,
                 Err(_) => NextAtPlace::End,
             },
-            Err(e) if nothing_came(e.kind()) => self.note_waiting(place),
+            Err(e) if is_no_data(e.kind()) => self.note_waiting(place),
             Err(_) => NextAtPlace::End,
         }
     }
@@ -281,7 +281,7 @@ impl OverflowLane {
 
     /// The next frame of those in the queue.
     fn take_next(&mut self, buffer: &mut [u8]) -> Option<(u16, usize)> {
-        for _ in 0..AT_ONCE {
+        for _ in 0..STEPS_PER_POLL {
             if self.sockets.is_queue_empty() {
                 break;
             }

@@ -1,6 +1,6 @@
 //! The machine's streams as doors. They tell nothing.
 
-use crate::sockets::{has_no_room, nothing_came};
+use crate::sockets::{has_no_room, is_no_data};
 use crate::timeouts::ConnectionTimeouts;
 use hdl_workers::{Door, DoorFault};
 use std::net::TcpStream;
@@ -46,7 +46,7 @@ impl<R: std::rt::Clock + Drop> Door for SocketDoor<R> {
                 self.stream = Some(stream);
                 Ok(true)
             }
-            Err(e) if nothing_came(e.kind()) => Ok(false),
+            Err(e) if is_no_data(e.kind()) => Ok(false),
             Err(e) if has_no_room(&e) => {
                 self.timeouts.pause();
                 Ok(false)

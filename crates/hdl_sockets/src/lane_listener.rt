@@ -1,6 +1,6 @@
 //! Since when the connections of a publisher are silent, and whether a client waits for one of its lanes.
 
-use crate::introduction::ProxyHeader;
+use crate::proxy_header::ProxyHeader;
 use crate::shutdown_flag::ShutdownFlag;
 use crate::sockets::Sockets;
 use mio::unix::SourceFd;
@@ -68,7 +68,7 @@ pub struct LaneListener {
     /// When the publisher's clocks began.
     start: Instant,
     /// For how many milliseconds a connection may be silent while another client waits.
-    idle: u64,
+    idle_millis: u64,
     /// Since when the connection is silent.
     since: u64,
     shutdown: Arc<ShutdownFlag>,
@@ -133,7 +133,7 @@ impl LaneListener {
 
     /// Whether the silent connection has to make room: it is silent for too long, longest among all of its publisher, and a client waits.
     pub fn must_make_room(&mut self, now: u64) -> bool {
-        now.saturating_sub(self.since) >= self.idle
+        now.saturating_sub(self.since) >= self.idle_millis
             && self.idle_times.is_longest(self.place, self.since)
             && self.poll_for_client()
     }
@@ -183,7 +183,7 @@ fn share(alloc: Global, listeners: &[TcpListener]) -> io::Result<Vec<TcpListener
 #[derive(Drop)]
 pub struct ListenerConfig {
     pub door: Duration,
-    pub idle: u32,
+    pub idle_seconds: u32,
     pub shutdown: Arc<ShutdownFlag>,
     pub proxied: Option<IpAddr>,
 }
@@ -206,7 +206,7 @@ fn lane_listener_at<R: Net>(
         idle_times,
         place,
         start,
-        idle: u64::from(config.idle).saturating_mul(1000),
+        idle_millis: u64::from(config.idle_seconds).saturating_mul(1000),
         since: 1,
         shutdown,
         proxied: config.proxied,

@@ -2,7 +2,7 @@
 
 use crate::error_reply::too_long_reply;
 use crate::shutdown_flag::ShutdownFlag;
-use crate::sockets::{PacketSocket, Sockets, nothing_came};
+use crate::sockets::{PacketSocket, Sockets, is_no_data};
 use crate::verified_addresses::VerifiedAddresses;
 use hdl_frame::{ENVELOPE_LEN, Envelope};
 use hdl_limits::UNDER_WAY_MAX;
@@ -15,7 +15,7 @@ use std::net::SocketAddr;
 use std::sync::Arc;
 
 /// How many datagrams that are no frame one call passes over.
-const PASSED: u32 = 64;
+const SKIPPED_MOST: u32 = 64;
 
 /// Where a datagram came from: the place of the socket that received it, and the sender's address. The reply goes the same way.
 #[derive(Clone, Copy, Debug, PartialEq, Eq)]
@@ -205,7 +205,7 @@ impl<R: std::rt::Clock + Drop> Packets for SocketPackets<R> {
             self.faults = self.faults.saturating_add(1);
             return Err(DoorFault);
         }
-        for _ in 0..PASSED {
+        for _ in 0..SKIPPED_MOST {
             match self.post.take(buffer, may_wait) {
                 Ok((place, (length, address))) => {
                     let length = length.min(buffer.len());
@@ -215,7 +215,7 @@ impl<R: std::rt::Clock + Drop> Packets for SocketPackets<R> {
                         return Ok(Some((peer, length)));
                     }
                 }
-                Err(e) if nothing_came(e.kind()) => return Ok(None),
+                Err(e) if is_no_data(e.kind()) => return Ok(None),
                 Err(_) => {
                     self.faults = self.faults.saturating_add(1);
                     return Err(DoorFault);

@@ -9,7 +9,7 @@ use std::time::Duration;
 
 /// Whether a call that failed says only that nothing came: it would wait or was interrupted, or the peer gave up before it was
 /// accepted.
-pub fn nothing_came(kind: ErrorKind) -> bool {
+pub fn is_no_data(kind: ErrorKind) -> bool {
     matches!(
         kind,
         ErrorKind::WouldBlock
@@ -199,7 +199,7 @@ impl<S: Source + Drop> Sockets<S> {
                     self.first = place.wrapping_add(1);
                     return Ok((place, taken));
                 }
-                Err(e) if nothing_came(e.kind()) => {}
+                Err(e) if is_no_data(e.kind()) => {}
                 Err(e) => return Err(e),
             }
         }
@@ -209,7 +209,7 @@ impl<S: Source + Drop> Sockets<S> {
     /// Takes what came for one of them, with its place. It may wait for a while.
     pub fn take(&mut self, buffer: &mut [u8]) -> io::Result<(usize, S::Taken)> {
         match self.take_now(buffer) {
-            Err(e) if nothing_came(e.kind()) && (self.is_registered || self.sockets.len() > 1) => {
+            Err(e) if is_no_data(e.kind()) && (self.is_registered || self.sockets.len() > 1) => {
                 self.wait_ready(self.most);
                 self.take_now(buffer)
             }

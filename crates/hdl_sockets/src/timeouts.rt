@@ -1,10 +1,10 @@
 //! The time limits of a connection.
 
-use crate::introduction::{HEADER_WAIT, ProxyHeader};
 use crate::lane_listener::LaneListener;
 use crate::progress::Progress;
-use crate::sockets::nothing_came;
-use hdl_proxied::HeaderStep;
+use crate::proxy_header::{HEADER_WAIT_MILLIS, ProxyHeader};
+use crate::sockets::is_no_data;
+use hdl_proxy_protocol::HeaderStep;
 use hdl_telemetry::StreamRecorder;
 use std::io::{self, ErrorKind, Read, Write};
 use std::net::{SocketAddr, TcpStream};
@@ -15,13 +15,13 @@ use std::time::Duration;
 const TICK_SECONDS: u64 = 1;
 
 /// For how many milliseconds the rest of a frame is waited for.
-const FRAME_WAIT: u64 = 10_000;
+const FRAME_WAIT_MILLIS: u64 = 10_000;
 
 /// For how many ticks a connection may take nothing of an answer.
 const WRITE_TICKS: u64 = 10;
 
 /// How many milliseconds a lane waits before it accepts again, where the machine had no room for a connection.
-const RETRY_AFTER: u64 = 100;
+const RETRY_MILLIS: u64 = 100;
 
 /// The time limits of the connection of one lane.
 #[derive(Drop)]
@@ -86,7 +86,7 @@ impl<R: std::rt::Clock + Drop> ConnectionTimeouts<R> {
 
     /// The machine has no room for the client that waits: a little later it may have.
     pub fn pause(&self) {
-        thread::sleep(&self.rt, Duration::from_millis(RETRY_AFTER));
+        thread::sleep(&self.rt, Duration::from_millis(RETRY_MILLIS));
     }
 
     /// The lane takes no more connections.
@@ -106,14 +106,15 @@ impl<R: std::rt::Clock + Drop> ConnectionTimeouts<R> {
         } else {
             0
         };
-        self.waited <= FRAME_WAIT
+        self.waited <= FRAME_WAIT_MILLIS
     }
 
     /// Whether a connection from which nothing came since this moment is to be closed.
     fn must_close(&mut self, since: u64) -> bool {
         let now = self.lane_listener.moment(&self.rt);
         let waited = self.waited.saturating_add(now.saturating_sub(since));
-        (self.progress.is_begun() && waited > FRAME_WAIT) || self.lane_listener.must_make_room(now)
+        (self.progress.is_begun() && waited > FRAME_WAIT_MILLIS)
+            || self.lane_listener.must_make_room(now)
     }
 
     /// The header is whole. A proxy may speak for itself.
@@ -133,11 +134,11 @@ impl<R: std::rt::Clock + Drop> ConnectionTimeouts<R> {
             match proxy_header.read_on(stream) {
                 Ok(HeaderStep::Whole(client)) => self.end_proxy_header(client),
                 Ok(HeaderStep::More(_)) => {}
-                Err(e) if nothing_came(e.kind()) => {}
+                Err(e) if is_no_data(e.kind()) => {}
                 Err(_) => return false,
             }
             let waited = self.lane_listener.moment(&self.rt).saturating_sub(since);
-            if waited > HEADER_WAIT || self.lane_listener.is_ending() {
+            if waited > HEADER_WAIT_MILLIS || self.lane_listener.is_ending() {
                 return false;
             }
         }
@@ -166,7 +167,7 @@ impl<R: std::rt::Clock + Drop> ConnectionTimeouts<R> {
                     self.lane_listener.set_busy();
                     return Ok(count);
                 }
-                Err(e) if nothing_came(e.kind()) => {
+                Err(e) if is_no_data(e.kind()) => {
                     if self.must_close(since) {
                         break;
                     }
@@ -182,7 +183,7 @@ impl<R: std::rt::Clock + Drop> ConnectionTimeouts<R> {
     pub fn write(&mut self, stream: &mut TcpStream, octets: &[u8]) -> io::Result<usize> {
         for _ in 0..WRITE_TICKS {
             match stream.write(octets) {
-                Err(e) if nothing_came(e.kind()) => {}
+                Err(e) if is_no_data(e.kind()) => {}
                 Ok(count) => {
                     let count = count.min(octets.len());
                     if let Some(recorder) = &mut self.recorder {

@@ -4,8 +4,8 @@
 //! with another header. So a copy of the file and then of the log, between two looks that find one header, opens as the table after a beginning
 //! of the changes, with each that was answered before the copy began: a page that was moved into the file meanwhile is in the log too, which goes before it.
 
-use crate::fault::TabledFault;
-use crate::pair::{Note, close_noted, open_copy};
+use crate::fault::TableRunFault;
+use crate::pair::{LogNote, close_with_note, open_copy};
 use crate::paths::Paths;
 use crate::reasons::PathReason;
 use std::fmt;
@@ -179,13 +179,13 @@ pub(crate) fn copy_both(rt: &HostRuntime, from: &Paths, to: &Paths) -> Result<()
 }
 
 /// Opens a copy of a table's file, which takes in its log, and closes it: it is whole without the log from then on.
-fn close_copy(rt: &HostRuntime, path: &str) -> Result<(), TabledFault> {
+fn close_copy(rt: &HostRuntime, path: &str) -> Result<(), TableRunFault> {
     let conn = open_copy(rt, path)?;
-    close_noted(rt, conn, Note::Whole)
+    close_with_note(rt, conn, LogNote::Whole)
 }
 
 /// Sees that a file begins as a database does, or has nothing yet.
-fn look_at_front(rt: &HostRuntime, path: &str) -> Result<(), CopyFault> {
+fn check_front(rt: &HostRuntime, path: &str) -> Result<(), CopyFault> {
     let mut front = [0; 16];
     let read = match File::open(rt, path) {
         Ok(mut file) => file.read(&mut front),
@@ -200,9 +200,9 @@ fn look_at_front(rt: &HostRuntime, path: &str) -> Result<(), CopyFault> {
 }
 
 /// Copies the table's file, and moves the log of the copy into it.
-pub fn copy_table(rt: &HostRuntime, from: &str, to: &str) -> Result<(), TabledFault> {
+pub fn copy_table(rt: &HostRuntime, from: &str, to: &str) -> Result<(), TableRunFault> {
     let (from, copy) = (Paths::resolved(rt, from)?, Paths::at(rt, to)?);
-    look_at_front(rt, &from.file)?;
+    check_front(rt, &from.file)?;
     copy_both(rt, &from, &copy)?;
     close_copy(rt, to)
 }

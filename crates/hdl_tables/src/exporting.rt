@@ -1,9 +1,9 @@
 //! Writing a table as a tenants text.
 
 use crate::closing::Closing;
-use crate::fault::TabledFault;
+use crate::fault::TableRunFault;
 use crate::file::FileWork;
-use crate::pair::Note;
+use crate::pair::LogNote;
 use crate::reasons::PathReason;
 use hdl_export::{
     ExportFault, LeftOut, LeftPrefix, export, export_publisher, left_out, left_out_of,
@@ -35,7 +35,7 @@ pub fn status_of(fault: &ExportFault) -> u8 {
 }
 
 /// Says on standard error how many handles the text doesn't say, and which are the first; answers the exit status.
-fn say_left_out(rt: &HostRuntime, left: &LeftOut) -> u8 {
+fn report_left_out(rt: &HostRuntime, left: &LeftOut) -> u8 {
     if left.empty == 0 && left.unsayable == 0 {
         return 0;
     }
@@ -52,7 +52,7 @@ fn say_left_out(rt: &HostRuntime, left: &LeftOut) -> u8 {
 }
 
 /// Says on standard error how many handles of which prefixes are left out, since the text lacks these.
-fn say_left_prefixes(rt: &HostRuntime, left: &[LeftPrefix]) {
+fn report_left_prefixes(rt: &HostRuntime, left: &[LeftPrefix]) {
     for one in left {
         let (prefix, handles) = (one.prefix.as_str(), one.handles);
         let _ = eprintln!(rt;
@@ -88,7 +88,7 @@ pub fn publisher_names(alloc: Global, tenants: &Tenants) -> Result<String, Alloc
 }
 
 /// Whether the text has a publisher of the name that was given, if one was; says on standard error where it hasn't.
-pub fn has_named(rt: &HostRuntime, tenants: &Tenants, publisher: &Option<String>) -> bool {
+pub fn check_publisher(rt: &HostRuntime, tenants: &Tenants, publisher: &Option<String>) -> bool {
     let Some(name) = publisher else {
         return true;
     };
@@ -131,12 +131,12 @@ impl fmt::Display for WriteFault {
 }
 
 /// Sees that nothing is at the path that is written to, if one is given.
-pub fn look_at_new(rt: &HostRuntime, to: &Option<String>) -> Result<(), TabledFault> {
+pub fn check_new_path(rt: &HostRuntime, to: &Option<String>) -> Result<(), TableRunFault> {
     let Some(path) = to else {
         return Ok(());
     };
     if fs::symlink_metadata(rt, path).is_ok() {
-        return Err(TabledFault::from(WriteFault::Exists));
+        return Err(TableRunFault::from(WriteFault::Exists));
     }
     Ok(())
 }
@@ -171,24 +171,24 @@ fn write_new(rt: &HostRuntime, path: &str, text: &str) -> io::Result<()> {
 }
 
 /// Puts the text into a new file, if a path is given, or prints it.
-fn put_text(rt: &HostRuntime, text: &str, to: &Option<String>) -> Result<(), TabledFault> {
+fn put_text(rt: &HostRuntime, text: &str, to: &Option<String>) -> Result<(), TableRunFault> {
     let Some(path) = to else {
         return match put_all(&mut rt.stdout(), text.as_bytes()) {
             Ok(()) => Ok(()),
-            Err(_) => Err(TabledFault::from(WriteFault::Output)),
+            Err(_) => Err(TableRunFault::from(WriteFault::Output)),
         };
     };
     match write_new(rt, path, text) {
         Ok(()) => Ok(()),
-        Err(e) if e.kind() == ErrorKind::AlreadyExists => Err(TabledFault::from(
+        Err(e) if e.kind() == ErrorKind::AlreadyExists => Err(TableRunFault::from(
             WriteFault::Exists,
         )),
-        Err(e) => Err(TabledFault::from(WriteFault::Device(e.kind()))),
+        Err(e) => Err(TableRunFault::from(WriteFault::Device(e.kind()))),
     }
 }
 
 /// Says on standard error where a text is longer than standard input takes.
-fn say_length(rt: &HostRuntime, text: &str) {
+fn report_length(rt: &HostRuntime, text: &str) {
     let length = text.len();
     if length > INPUT_LIMIT {
         let _ = eprintln!(rt;
@@ -210,7 +210,7 @@ fn export_all<R: Rows>(
     rt: &HostRuntime,
     text: &str,
     rows: &mut R,
-) -> Result<Exported, TabledFault> {
+) -> Result<Exported, TableRunFault> {
     let left = left_out(rt.alloc(), text, rows)?;
     let prefixes = left_prefixes(rt.alloc(), text, rows)?;
     let text = export(rt.alloc(), text, rows)?;
@@ -227,7 +227,7 @@ fn export_part<R: Rows>(
     text: &str,
     publisher: &str,
     rows: &mut R,
-) -> Result<Exported, TabledFault> {
+) -> Result<Exported, TableRunFault> {
     let left = left_out_of(rt.alloc(), text, publisher, rows)?;
     let text = export_publisher(rt.alloc(), text, publisher, rows)?;
     Ok(Exported {
@@ -247,7 +247,7 @@ pub struct ExportText<'a> {
 }
 
 impl ExportText<'_> {
-    fn exported<R: Rows>(&self, rt: &HostRuntime, rows: &mut R) -> Result<Exported, TabledFault> {
+    fn exported<R: Rows>(&self, rt: &HostRuntime, rows: &mut R) -> Result<Exported, TableRunFault> {
         match self.publisher {
             Some(name) => export_part(rt, self.text, name.as_str(), rows),
             None => export_all(rt, self.text, rows),
@@ -255,15 +255,15 @@ impl ExportText<'_> {
     }
 
     /// Says what no text says, and then writes the text. Answers the exit status.
-    pub fn put<R: Rows>(&self, rt: &HostRuntime, rows: &mut R) -> Result<u8, TabledFault> {
+    pub fn put<R: Rows>(&self, rt: &HostRuntime, rows: &mut R) -> Result<u8, TableRunFault> {
         let Exported {
             text,
             left,
             prefixes,
         } = self.exported(rt, rows)?;
-        say_left_prefixes(rt, prefixes.as_slice());
-        let status = say_left_out(rt, &left);
-        say_length(rt, &text);
+        report_left_prefixes(rt, prefixes.as_slice());
+        let status = report_left_out(rt, &left);
+        report_length(rt, &text);
         put_text(rt, &text, self.to)?;
         Ok(status)
     }
@@ -280,10 +280,10 @@ pub struct Export<'a> {
 fn close_after<T: Closing + Drop>(
     rt: &HostRuntime,
     table: T,
-    printed: Result<u8, TabledFault>,
-) -> Result<u8, TabledFault> {
+    printed: Result<u8, TableRunFault>,
+) -> Result<u8, TableRunFault> {
     let status = printed?;
-    table.close(rt, Note::Kept)?;
+    table.close(rt, LogNote::Kept)?;
     Ok(status)
 }
 
@@ -292,7 +292,11 @@ impl FileWork for Export<'_> {
         &self.tenants
     }
 
-    fn run<T: Owing + Closing + Drop>(self, rt: &HostRuntime, table: T) -> Result<u8, TabledFault> {
+    fn run<T: Owing + Closing + Drop>(
+        self,
+        rt: &HostRuntime,
+        table: T,
+    ) -> Result<u8, TableRunFault> {
         let mut table = table;
         let printed = self.text.put(rt, &mut table);
         close_after(rt, table, printed)

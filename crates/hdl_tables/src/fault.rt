@@ -12,7 +12,7 @@ use std::fmt;
 
 /// Why a run over a table ends with a fault line.
 #[derive(Clone, Copy)]
-pub enum TabledFault {
+pub enum TableRunFault {
     Run(Fault),
     Table(TableFault),
     /// The table's file is read, and another process has it open.
@@ -33,7 +33,7 @@ const PAIR_HELP: &str =
     "keep both files, and put the right ones back, or restore a copy (handled restore); or start once with --accept-loss, which goes on with what is whole";
 
 /// What an operator can do besides what a fault of the file says.
-fn way_on(fault: &TableFault) -> &'static str {
+fn advice_for(fault: &TableFault) -> &'static str {
     match fault {
         TableFault::InUse => " (a server by `handled stop --control PATH`)",
         TableFault::Device => ", and the room on it",
@@ -41,84 +41,84 @@ fn way_on(fault: &TableFault) -> &'static str {
     }
 }
 
-impl TabledFault {
+impl TableRunFault {
     /// The exit status: 4 for the file, and else that of the run.
     pub fn status(&self) -> u8 {
         match self {
-            TabledFault::Run(fault) => fault.status(),
-            TabledFault::Table(TableFault::Memory) => Fault::NoMemory.status(),
-            TabledFault::Export(fault) => status_of(fault),
-            TabledFault::Table(_)
-            | TabledFault::InUse
-            | TabledFault::Unopened(_)
-            | TabledFault::Pair(_)
-            | TabledFault::Write(_)
-            | TabledFault::Copy(_)
-            | TabledFault::Restore(_) => 4,
+            TableRunFault::Run(fault) => fault.status(),
+            TableRunFault::Table(TableFault::Memory) => Fault::NoMemory.status(),
+            TableRunFault::Export(fault) => status_of(fault),
+            TableRunFault::Table(_)
+            | TableRunFault::InUse
+            | TableRunFault::Unopened(_)
+            | TableRunFault::Pair(_)
+            | TableRunFault::Write(_)
+            | TableRunFault::Copy(_)
+            | TableRunFault::Restore(_) => 4,
         }
     }
 }
 
-impl fmt::Display for TabledFault {
+impl fmt::Display for TableRunFault {
     fn fmt<W: fmt::Write>(&self, f: &mut fmt::Formatter<W>) -> fmt::Result {
         match self {
-            TabledFault::Run(fault) => write!(f, "{fault}"),
-            TabledFault::Table(fault) => write!(f, "{fault}{}", way_on(fault)),
-            TabledFault::InUse => f.write_str(
+            TableRunFault::Run(fault) => write!(f, "{fault}"),
+            TableRunFault::Table(fault) => write!(f, "{fault}{}", advice_for(fault)),
+            TableRunFault::InUse => f.write_str(
                 "table: in use: another process has the file open; make a copy of it (handled copy) and name that, or end the process first",
             ),
-            TabledFault::Unopened(reason) => write!(f, "table: cannot open: {reason}"),
-            TabledFault::Pair(fault) => write!(f, "table: {fault}: {PAIR_HELP}"),
-            TabledFault::Export(fault) => write!(f, "{fault}"),
-            TabledFault::Write(fault) => write!(f, "{fault}"),
-            TabledFault::Copy(fault) => write!(f, "{fault}"),
-            TabledFault::Restore(fault) => write!(f, "{fault}"),
+            TableRunFault::Unopened(reason) => write!(f, "table: cannot open: {reason}"),
+            TableRunFault::Pair(fault) => write!(f, "table: {fault}: {PAIR_HELP}"),
+            TableRunFault::Export(fault) => write!(f, "{fault}"),
+            TableRunFault::Write(fault) => write!(f, "{fault}"),
+            TableRunFault::Copy(fault) => write!(f, "{fault}"),
+            TableRunFault::Restore(fault) => write!(f, "{fault}"),
         }
     }
 }
 
-impl From<Fault> for TabledFault {
-    fn from(fault: Fault) -> TabledFault {
-        TabledFault::Run(fault)
+impl From<Fault> for TableRunFault {
+    fn from(fault: Fault) -> TableRunFault {
+        TableRunFault::Run(fault)
     }
 }
 
-impl From<ExportFault> for TabledFault {
-    fn from(fault: ExportFault) -> TabledFault {
-        TabledFault::Export(fault)
+impl From<ExportFault> for TableRunFault {
+    fn from(fault: ExportFault) -> TableRunFault {
+        TableRunFault::Export(fault)
     }
 }
 
-impl From<CopyFault> for TabledFault {
-    fn from(fault: CopyFault) -> TabledFault {
-        TabledFault::Copy(fault)
+impl From<CopyFault> for TableRunFault {
+    fn from(fault: CopyFault) -> TableRunFault {
+        TableRunFault::Copy(fault)
     }
 }
 
-impl From<RestoreFault> for TabledFault {
-    fn from(fault: RestoreFault) -> TabledFault {
-        TabledFault::Restore(fault)
+impl From<RestoreFault> for TableRunFault {
+    fn from(fault: RestoreFault) -> TableRunFault {
+        TableRunFault::Restore(fault)
     }
 }
 
-impl From<WriteFault> for TabledFault {
-    fn from(fault: WriteFault) -> TabledFault {
-        TabledFault::Write(fault)
+impl From<WriteFault> for TableRunFault {
+    fn from(fault: WriteFault) -> TableRunFault {
+        TableRunFault::Write(fault)
     }
 }
 
-impl From<TableFault> for TabledFault {
-    fn from(fault: TableFault) -> TabledFault {
-        TabledFault::Table(fault)
+impl From<TableFault> for TableRunFault {
+    fn from(fault: TableFault) -> TableRunFault {
+        TableRunFault::Table(fault)
     }
 }
 
 /// A file or a log can't be looked at.
-impl From<LookFault> for TabledFault {
-    fn from(fault: LookFault) -> TabledFault {
+impl From<LookFault> for TableRunFault {
+    fn from(fault: LookFault) -> TableRunFault {
         match fault {
-            LookFault::Memory => TabledFault::Run(Fault::NoMemory),
-            LookFault::Device(_) => TabledFault::Table(TableFault::Device),
+            LookFault::Memory => TableRunFault::Run(Fault::NoMemory),
+            LookFault::Device(_) => TableRunFault::Table(TableFault::Device),
         }
     }
 }

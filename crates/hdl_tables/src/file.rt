@@ -1,7 +1,7 @@
 //! What is done over the table in a file that no server has open.
 
 use crate::closing::Closing;
-use crate::fault::TabledFault;
+use crate::fault::TableRunFault;
 use crate::opening::{TablePath, open_served};
 use hdl_core::Owing;
 use hdl_lastingrows::{Alarm, TableFault};
@@ -17,25 +17,29 @@ pub trait FileWork: Drop {
     fn tenants(&self) -> &Tenants;
 
     /// Does it, closes the file, and answers the exit status.
-    fn run<T: Owing + Closing + Drop>(self, rt: &HostRuntime, table: T) -> Result<u8, TabledFault>;
+    fn run<T: Owing + Closing + Drop>(
+        self,
+        rt: &HostRuntime,
+        table: T,
+    ) -> Result<u8, TableRunFault>;
 }
 
 /// What is said where a file is to be read that another process has open: a copy would do.
-fn as_read(fault: TabledFault) -> TabledFault {
+fn as_read(fault: TableRunFault) -> TableRunFault {
     match fault {
-        TabledFault::Table(TableFault::InUse) => TabledFault::InUse,
+        TableRunFault::Table(TableFault::InUse) => TableRunFault::InUse,
         other => other,
     }
 }
 
 /// Does this over the table in the file.
-pub fn over_file<R: Threads + Drop, A: Alarm + Progress + Drop, W: FileWork>(
+pub fn run_over_file<R: Threads + Drop, A: Alarm + Progress + Drop, W: FileWork>(
     machine: R,
     rt: &HostRuntime,
     file: TablePath<'_>,
     alarm: A,
     work: W,
-) -> Result<u8, TabledFault> {
+) -> Result<u8, TableRunFault> {
     let table = open_served(machine, rt, file, work.tenants(), alarm, false).map_err(as_read)?;
     work.run(rt, table)
 }

@@ -3,7 +3,7 @@
 //! ```text
 //! empty_table  -> Table::First      in SQL, in memory, the handles that were read last kept
 //! open_served  -> Table::Second     in memory and in a file, which has each write before it is answered
-//! over_file    -> a FileWork over the table in a file: Export is one, a replayed script another
+//! run_over_file    -> a FileWork over the table in a file: Export is one, a replayed script another
 //! copy_table   -> a copy of the file, while a server has it open or not
 //! restore_table -> such a copy, checked, in the place of the file
 //! ```
@@ -35,11 +35,11 @@ mod restoring;
 pub use closing::Closing;
 pub use copying::{CopyFault, copy_table};
 pub use exporting::{
-    Export, ExportText, WriteFault, has_named, has_publisher, look_at_new, publisher_names,
+    Export, ExportText, WriteFault, check_new_path, check_publisher, has_publisher, publisher_names,
 };
-pub use fault::TabledFault;
-pub use file::{FileWork, over_file};
+pub use fault::TableRunFault;
+pub use file::{FileWork, run_over_file};
 pub use opening::{Table, TablePath, empty_table, is_new, open_served, table_in};
-pub use pair::{LogState, Note, log_state};
-pub use reasons::{OpenReason, Owner, not_there};
+pub use pair::{LogNote, LogState, log_state};
+pub use reasons::{FileOwner, OpenReason, missing_fault};
 pub use restoring::{RestoreFault, restore_table};

@@ -9,8 +9,8 @@ ghost use Rattle.hdl_lastingrows.specs.Beside.{IfHere};
 ghost use Rattle.hdl_lastingrows.specs.Opened.{IsOpenedIn};
 ghost use Rattle.hdl_tables.specs.Served.{IsSecond};
 
-use crate::fault::TabledFault;
-use crate::pair::open_judged;
+use crate::fault::TableRunFault;
+use crate::pair::open_checked;
 use hdl_cachedrows::CachedRows;
 use hdl_core::Rows;
 use hdl_eitherrows::EitherRows;
@@ -93,8 +93,8 @@ pub fn open_served<R: Threads + Drop, A: Alarm + Progress + Drop>(
     tenants: &Tenants,
     alarm: A,
     beside: bool,
-) -> Result<Table<R, A>, TabledFault> {
-    let conn = open_judged(rt, &file)?;
+) -> Result<Table<R, A>, TableRunFault> {
+    let conn = open_checked(rt, &file)?;
     Ok(table_in(machine, rt.alloc(), conn, tenants, alarm, beside)?)
 }
 

@@ -4,10 +4,10 @@ ghost use Rattle.std.specs.Prelude.{◌≡◌, false, IfOk};
 ghost use Rattle.sqlite.specs.Files.{file_state};
 ghost use Rattle.hdl_sqlrows.specs.Filed.{WhereOpen};
 
-use crate::fault::TabledFault;
+use crate::fault::TableRunFault;
 use crate::opening::TablePath;
 use crate::paths::Paths;
-use crate::reasons::{OpenReason, unopened};
+use crate::reasons::{OpenReason, open_fault};
 use hdl_lastingrows::{Store, TableFault, open_file};
 use hdl_pairs::{
     FIRST_NOTE, FRONT, FileLook, Found, LogLook, LookFault, PairFault, Verdict, WHOLE, file_look,
@@ -26,11 +26,11 @@ use std::io::{BufReader, ErrorKind, Read};
 const RANGE: u64 = 0x3f00_0000;
 
 /// The files of a table, which no other process opens meanwhile.
-pub(crate) type Held = Files<FileFrom<Wary>>;
+pub(crate) type LockedFiles = Files<FileFrom<Wary>>;
 
 /// What a file notes as it is closed.
 #[derive(Clone, Copy)]
-pub enum Note {
+pub enum LogNote {
     /// What it noted before, brought up to date: that it needs its log, or that it is whole.
     Kept,
     /// That it needs its log.
@@ -43,13 +43,13 @@ pub enum Note {
 
 /// What is known of a file and of the log beside it.
 #[derive(Clone, Copy)]
-struct Look {
+struct Inspected {
     file: FileLook,
     log: LogLook,
 }
 
 /// What is known of the file at a path. One that can't be read is left to the open, which says why.
-fn look_at_file(rt: &HostRuntime, path: &str) -> FileLook {
+fn inspect_file(rt: &HostRuntime, path: &str) -> FileLook {
     let mut file = match File::open(rt, path) {
         Ok(file) => file,
         Err(e) if e.kind() == ErrorKind::NotFound => return FileLook::Nothing,
@@ -63,27 +63,27 @@ fn look_at_file(rt: &HostRuntime, path: &str) -> FileLook {
     }
 }
 
-fn look_through(rt: &HostRuntime, file: File, note: u32) -> Result<LogLook, LookFault> {
+fn read_log(rt: &HostRuntime, file: File, note: u32) -> Result<LogLook, LookFault> {
     let length = file.metadata()?.len();
     let mut input = BufReader::new(rt.alloc(), file)?;
     log_look(rt.alloc(), &mut input, length, note)
 }
 
 /// What is known of the log at a path, next to a file of which this is known.
-fn look_at_log(rt: &HostRuntime, path: &str, beside: &FileLook) -> Result<LogLook, LookFault> {
+fn inspect_log(rt: &HostRuntime, path: &str, beside: &FileLook) -> Result<LogLook, LookFault> {
     let note = match beside {
         FileLook::Noted(note) => *note,
         _ => 0,
     };
     match File::open(rt, path) {
-        Ok(file) => look_through(rt, file, note),
+        Ok(file) => read_log(rt, file, note),
         Err(e) if e.kind() == ErrorKind::NotFound => Ok(LogLook::Nothing),
         Err(e) => Err(LookFault::from(e)),
     }
 }
 
 /// What is left to the open, which says what is wrong.
-const UNKNOWN: Look = Look {
+const UNKNOWN: Inspected = Inspected {
     file: FileLook::Other,
     log: LogLook::Nothing,
 };
@@ -97,20 +97,20 @@ fn is_no_file(rt: &HostRuntime, path: &str) -> bool {
 }
 
 /// What is known of both.
-fn look_at(rt: &HostRuntime, paths: &Paths) -> Result<Look, TabledFault> {
+fn inspect(rt: &HostRuntime, paths: &Paths) -> Result<Inspected, TableRunFault> {
     if is_no_file(rt, &paths.file) || is_no_file(rt, &paths.log) {
         return Ok(UNKNOWN);
     }
-    let file = look_at_file(rt, &paths.file);
-    match look_at_log(rt, &paths.log, &file) {
-        Ok(log) => Ok(Look { file, log }),
-        Err(LookFault::Memory) => Err(TabledFault::from(Fault::NoMemory)),
+    let file = inspect_file(rt, &paths.file);
+    match inspect_log(rt, &paths.log, &file) {
+        Ok(log) => Ok(Inspected { file, log }),
+        Err(LookFault::Memory) => Err(TableRunFault::from(Fault::NoMemory)),
         Err(LookFault::Device(ErrorKind::PermissionDenied)) => Ok(UNKNOWN),
-        Err(LookFault::Device(_)) => Err(TabledFault::from(TableFault::Device)),
+        Err(LookFault::Device(_)) => Err(TableRunFault::from(TableFault::Device)),
     }
 }
 
-impl Look {
+impl Inspected {
     fn verdict(&self) -> Verdict {
         judge(&self.file, &self.log)
     }
@@ -132,16 +132,19 @@ impl Look {
 }
 
 /// Keeps every server from opening the file of a table, if one is there.
-pub(crate) fn hold(rt: &HostRuntime, path: &str) -> Result<Option<Held>, TabledFault> {
+pub(crate) fn lock_file(
+    rt: &HostRuntime,
+    path: &str,
+) -> Result<Option<LockedFiles>, TableRunFault> {
     match fs::symlink_metadata(rt, path) {
         Err(e) if e.kind() == ErrorKind::NotFound => return Ok(None),
         _ => {}
     }
     match sqlite_std_file::open(rt, path, Wary) {
         Ok(files) => Ok(Some(files)),
-        Err(OpenError::Busy) => Err(TabledFault::from(TableFault::InUse)),
-        Err(OpenError::OutOfMemory) => Err(TabledFault::from(Fault::NoMemory)),
-        Err(_) => Err(unopened(rt, path)),
+        Err(OpenError::Busy) => Err(TableRunFault::from(TableFault::InUse)),
+        Err(OpenError::OutOfMemory) => Err(TableRunFault::from(Fault::NoMemory)),
+        Err(_) => Err(open_fault(rt, path)),
     }
 }
 
@@ -150,14 +153,14 @@ fn is_in_use(rt: &HostRuntime, paths: &Paths) -> bool {
     if File::open(rt, &paths.log).is_err() {
         return false;
     }
-    match hold(rt, &paths.file) {
-        Err(TabledFault::Table(TableFault::InUse)) => true,
+    match lock_file(rt, &paths.file) {
+        Err(TableRunFault::Table(TableFault::InUse)) => true,
         _ => false,
     }
 }
 
 /// Says what there is to tell of files that are opened.
-fn say_verdict(rt: &HostRuntime, verdict: &Verdict) {
+fn report_verdict(rt: &HostRuntime, verdict: &Verdict) {
     match verdict {
         Verdict::Sound | Verdict::Refused(_) => {}
         Verdict::Ends(Found { end, length }) => {
@@ -174,7 +177,7 @@ fn say_verdict(rt: &HostRuntime, verdict: &Verdict) {
 }
 
 /// Whether another log than the file's own lies beside it, which has to go before the file is opened.
-fn is_strange(fault: PairFault) -> bool {
+fn is_foreign_log(fault: PairFault) -> bool {
     match fault {
         PairFault::Another | PairFault::FileGone | PairFault::Front => true,
         PairFault::LogGone | PairFault::Damaged(_) => false,
@@ -182,12 +185,12 @@ fn is_strange(fault: PairFault) -> bool {
 }
 
 /// Puts another log than the file's own aside.
-fn set_log_aside(rt: &HostRuntime, paths: &Paths) -> Result<(), TabledFault> {
+fn set_log_aside(rt: &HostRuntime, paths: &Paths) -> Result<(), TableRunFault> {
     if fs::symlink_metadata(rt, &paths.lost).is_ok() {
-        return Err(TabledFault::Unopened(OpenReason::Lost));
+        return Err(TableRunFault::Unopened(OpenReason::Lost));
     }
     if let Err(e) = fs::rename(rt, &paths.log, &paths.lost) {
-        return Err(TabledFault::from(LookFault::from(e)));
+        return Err(TableRunFault::from(LookFault::from(e)));
     }
     let lost = paths.lost.as_str();
     let _ = eprintln!(rt; "table: the log that lay there is {lost} now");
@@ -195,9 +198,9 @@ fn set_log_aside(rt: &HostRuntime, paths: &Paths) -> Result<(), TabledFault> {
 }
 
 /// Says what is given up, and puts another log than the file's own aside.
-fn give_up(rt: &HostRuntime, paths: &Paths, fault: PairFault) -> Result<(), TabledFault> {
+fn accept_loss(rt: &HostRuntime, paths: &Paths, fault: PairFault) -> Result<(), TableRunFault> {
     let _ = eprintln!(rt; "table: {fault}: given up, as --accept-loss asks");
-    if is_strange(fault) {
+    if is_foreign_log(fault) {
         set_log_aside(rt, paths)
     } else {
         Ok(())
@@ -205,31 +208,31 @@ fn give_up(rt: &HostRuntime, paths: &Paths, fault: PairFault) -> Result<(), Tabl
 }
 
 /// Judges a file and the log beside it before they are opened, and says what there is to tell. Whether a log was given up that the file needs.
-fn admit(rt: &HostRuntime, place: &TablePath<'_>) -> Result<bool, TabledFault> {
-    let paths = Paths::resolved(rt, place.path)?;
-    let look = look_at(rt, &paths)?;
-    let verdict = look.verdict();
+fn check_files(rt: &HostRuntime, table_path: &TablePath<'_>) -> Result<bool, TableRunFault> {
+    let paths = Paths::resolved(rt, table_path.path)?;
+    let inspected = inspect(rt, &paths)?;
+    let verdict = inspected.verdict();
     if verdict != Verdict::Sound && is_in_use(rt, &paths) {
-        return Err(TabledFault::from(TableFault::InUse));
+        return Err(TableRunFault::from(TableFault::InUse));
     }
     match verdict {
-        Verdict::Refused(fault) if place.accepts_loss => {
-            give_up(rt, &paths, fault)?;
-            Ok(look.needs_log())
+        Verdict::Refused(fault) if table_path.accepts_loss => {
+            accept_loss(rt, &paths, fault)?;
+            Ok(inspected.needs_log())
         }
-        Verdict::Refused(fault) => Err(TabledFault::Pair(fault)),
+        Verdict::Refused(fault) => Err(TableRunFault::Pair(fault)),
         told => {
-            say_verdict(rt, &told);
+            report_verdict(rt, &told);
             Ok(false)
         }
     }
 }
 
 /// Judges a copy of both. That a change was under way as they were copied isn't worth a word.
-fn admit_copy(rt: &HostRuntime, path: &str) -> Result<(), TabledFault> {
+fn check_copied_files(rt: &HostRuntime, path: &str) -> Result<(), TableRunFault> {
     let paths = Paths::resolved(rt, path)?;
-    match look_at(rt, &paths)?.verdict() {
-        Verdict::Refused(fault) => Err(TabledFault::Pair(fault)),
+    match inspect(rt, &paths)?.verdict() {
+        Verdict::Refused(fault) => Err(TableRunFault::Pair(fault)),
         _ => Ok(()),
     }
 }
@@ -246,11 +249,11 @@ pub enum LogState {
 }
 
 /// What is known of the log of the file at a path, which isn't open yet.
-pub fn log_state(rt: &HostRuntime, path: &str) -> Result<LogState, TabledFault> {
-    let look = look_at(rt, &Paths::resolved(rt, path)?)?;
-    if is_settled(&look.file, &look.log) {
+pub fn log_state(rt: &HostRuntime, path: &str) -> Result<LogState, TableRunFault> {
+    let inspected = inspect(rt, &Paths::resolved(rt, path)?)?;
+    if is_settled(&inspected.file, &inspected.log) {
         Ok(LogState::Settled)
-    } else if look.has_no_note() {
+    } else if inspected.has_no_note() {
         Ok(LogState::Unnoted)
     } else {
         Ok(LogState::Used)
@@ -277,26 +280,26 @@ fn write_note<S: Alter>(store: &mut S, note: u32) -> Result<(), StoreError> {
 }
 
 /// A first note for a file that needs its log, by chance, so that tables have others.
-fn first_note(rt: &HostRuntime) -> Result<u32, TabledFault> {
+fn first_note(rt: &HostRuntime) -> Result<u32, TableRunFault> {
     match RandomState::new(rt) {
         Ok(chance) => Ok(FIRST_NOTE.saturating_add((chance.hash_one(&0u8) % RANGE) as u32)),
-        Err(_) => Err(TabledFault::from(Fault::Device)),
+        Err(_) => Err(TableRunFault::from(Fault::Device)),
     }
 }
 
 /// The note that a file is to have which has this one.
-fn note_of(rt: &HostRuntime, note: Note, before: u32) -> Result<u32, TabledFault> {
+fn note_of(rt: &HostRuntime, note: LogNote, before: u32) -> Result<u32, TableRunFault> {
     match note {
-        Note::Whole => Ok(WHOLE),
-        Note::Kept if before < FIRST_NOTE => Ok(WHOLE),
-        Note::Served if before < FIRST_NOTE => first_note(rt),
-        Note::New => first_note(rt),
-        Note::Kept | Note::Served => Ok(before.wrapping_add(1).max(FIRST_NOTE)),
+        LogNote::Whole => Ok(WHOLE),
+        LogNote::Kept if before < FIRST_NOTE => Ok(WHOLE),
+        LogNote::Served if before < FIRST_NOTE => first_note(rt),
+        LogNote::New => first_note(rt),
+        LogNote::Kept | LogNote::Served => Ok(before.wrapping_add(1).max(FIRST_NOTE)),
     }
 }
 
 /// Writes the note that the file is to have. One that has a note, and is to need its log, gets the note behind its own first, by which the log is known as its own.
-fn write_last<S: Alter>(store: &mut S, note: u32) -> Result<(), StoreError> {
+fn write_final_note<S: Alter>(store: &mut S, note: u32) -> Result<(), StoreError> {
     let before = store.version();
     if before != 0 && note != WHOLE {
         write_note(store, before.saturating_add(1))?;
@@ -305,24 +308,24 @@ fn write_last<S: Alter>(store: &mut S, note: u32) -> Result<(), StoreError> {
 }
 
 /// A store with a log beside its file.
-trait Logged: Alter {
+trait LoggedStore: Alter {
     /// Moves the log into the file.
-    fn move_pages(&mut self) -> Result<(), StoreError>;
+    fn checkpoint_pages(&mut self) -> Result<(), StoreError>;
 }
 
-impl Logged for Store {
-    fn move_pages(&mut self) -> Result<(), StoreError> {
+impl LoggedStore for Store {
+    fn checkpoint_pages(&mut self) -> Result<(), StoreError> {
         self.checkpoint()
     }
 }
 
 /// Moves the log into the file, which notes this if it can be written, and begins the log of a file that needs one. One that can't be begun is begun at the next
 /// start.
-fn move_log<S: Logged + Drop>(store: S, note: u32) -> Result<(), StoreError> {
+fn checkpoint<S: LoggedStore + Drop>(store: S, note: u32) -> Result<(), StoreError> {
     let mut store = store;
-    let noted = write_last(&mut store, note);
+    let noted = write_final_note(&mut store, note);
     store.rollback();
-    store.move_pages()?;
+    store.checkpoint_pages()?;
     noted?;
     if FIRST_NOTE <= note {
         let _ = write_note(&mut store, note.saturating_add(1));
@@ -331,32 +334,32 @@ fn move_log<S: Logged + Drop>(store: S, note: u32) -> Result<(), StoreError> {
 }
 
 /// Notes what a file needs, moves its log into it, and closes it. What a full disk has no room for stays in the log, where a file that keeps its note needs no word.
-pub(crate) fn close_noted(
+pub(crate) fn close_with_note(
     rt: &HostRuntime,
     conn: Connection<Store>,
-    note: Note,
-) -> Result<(), TabledFault> {
+    note: LogNote,
+) -> Result<(), TableRunFault> {
     let store = conn.into_store();
     let number = note_of(rt, note, store.version())?;
-    match (move_log(store, number), note) {
-        (Ok(()), _) | (Err(StoreError::Full), Note::Kept) => Ok(()),
-        (Err(fault), _) => Err(TabledFault::from(fault_of(fault))),
+    match (checkpoint(store, number), note) {
+        (Ok(()), _) | (Err(StoreError::Full), LogNote::Kept) => Ok(()),
+        (Err(fault), _) => Err(TableRunFault::from(fault_of(fault))),
     }
 }
 
 /// Opens the file at a path, as [`open_file`] does, once it was judged. An open that is refused says why.
-fn open_known(
+fn open_store(
     rt: &HostRuntime,
     path: &str,
     has_sums: bool,
-) -> Result<Connection<Store>, TabledFault>
+) -> Result<Connection<Store>, TableRunFault>
     ensures mode { IfOk result (λ c. c.in_transaction ≡ false) }
     ensures even { IfOk result (λ c. WhereOpen (file_state c) ((file_state c).committed ≡ (file_state c).now)) }
 {
     match open_file(rt, path, has_sums, Wary) {
         Ok(conn) => Ok(conn),
-        Err(TableFault::CannotOpen) => Err(unopened(rt, path)),
-        Err(fault) => Err(TabledFault::from(fault)),
+        Err(TableFault::CannotOpen) => Err(open_fault(rt, path)),
+        Err(fault) => Err(TableRunFault::from(fault)),
     }
 }
 
@@ -370,14 +373,17 @@ fn remove_empty(rt: &HostRuntime, log: &str) {
 }
 
 /// Opens a file that was judged. If it is no database, the log that the open makes next to it is taken away.
-fn open_tidily(rt: &HostRuntime, place: &TablePath<'_>) -> Result<Connection<Store>, TabledFault>
+fn open_without_leftovers(
+    rt: &HostRuntime,
+    table_path: &TablePath<'_>,
+) -> Result<Connection<Store>, TableRunFault>
     ensures mode { IfOk result (λ c. c.in_transaction ≡ false) }
     ensures even { IfOk result (λ c. WhereOpen (file_state c) ((file_state c).committed ≡ (file_state c).now)) }
 {
-    let paths = Paths::resolved(rt, place.path)?;
+    let paths = Paths::resolved(rt, table_path.path)?;
     let has_log = fs::symlink_metadata(rt, &paths.log).is_ok();
-    let opened = open_known(rt, place.path, place.has_sums);
-    if let Err(TabledFault::Table(TableFault::Damaged)) = &opened {
+    let opened = open_store(rt, table_path.path, table_path.has_sums);
+    if let Err(TableRunFault::Table(TableFault::Damaged)) = &opened {
         if !has_log {
             remove_empty(rt, &paths.log);
         }
@@ -386,30 +392,30 @@ fn open_tidily(rt: &HostRuntime, place: &TablePath<'_>) -> Result<Connection<Sto
 }
 
 /// Gives a file that lost its log a new note, so that the lost one isn't taken for its own if it is put back.
-fn renew(rt: &HostRuntime, place: &TablePath<'_>) -> Result<(), TabledFault> {
-    let conn = open_known(rt, place.path, place.has_sums)?;
-    close_noted(rt, conn, Note::New)
+fn renew_note(rt: &HostRuntime, table_path: &TablePath<'_>) -> Result<(), TableRunFault> {
+    let conn = open_store(rt, table_path.path, table_path.has_sums)?;
+    close_with_note(rt, conn, LogNote::New)
 }
 
 /// Judges the file at a path and the log beside it, and opens them.
-pub(crate) fn open_judged(
+pub(crate) fn open_checked(
     rt: &HostRuntime,
-    place: &TablePath<'_>,
-) -> Result<Connection<Store>, TabledFault>
+    table_path: &TablePath<'_>,
+) -> Result<Connection<Store>, TableRunFault>
     ensures mode { IfOk result (λ c. c.in_transaction ≡ false) }
     ensures even { IfOk result (λ c. WhereOpen (file_state c) ((file_state c).committed ≡ (file_state c).now)) }
 {
-    if admit(rt, place)? {
-        renew(rt, place)?;
+    if check_files(rt, table_path)? {
+        renew_note(rt, table_path)?;
     }
-    open_tidily(rt, place)
+    open_without_leftovers(rt, table_path)
 }
 
 /// Judges a copy of the file and the log beside it, and opens them.
-pub(crate) fn open_copy(rt: &HostRuntime, path: &str) -> Result<Connection<Store>, TabledFault>
+pub(crate) fn open_copy(rt: &HostRuntime, path: &str) -> Result<Connection<Store>, TableRunFault>
     ensures mode { IfOk result (λ c. c.in_transaction ≡ false) }
     ensures even { IfOk result (λ c. WhereOpen (file_state c) ((file_state c).committed ≡ (file_state c).now)) }
 {
-    admit_copy(rt, path)?;
-    open_known(rt, path, true)
+    check_copied_files(rt, path)?;
+    open_store(rt, path, true)
 }

@@ -1,6 +1,6 @@
 //! Why the file of a table can't be opened.
 
-use crate::fault::TabledFault;
+use crate::fault::TableRunFault;
 use crate::paths::{Paths, folder_of};
 use std::fmt;
 use std::fs::{self, Metadata, OpenOptions};
@@ -25,16 +25,16 @@ impl fmt::Display for PathReason {
 
 /// The user that something belongs to, and the user that would open it.
 #[derive(Clone, Copy)]
-pub struct Owner {
+pub struct FileOwner {
     pub owner: u32,
     /// Its permissions.
     pub mode: u32,
     pub user: u32,
 }
 
-impl Owner {
-    fn of(found: &Metadata) -> Owner {
-        Owner {
+impl FileOwner {
+    fn of(found: &Metadata) -> FileOwner {
+        FileOwner {
             owner: found.uid(),
             mode: found.mode() % 0o10000,
             user: libc::geteuid(),
@@ -42,9 +42,9 @@ impl Owner {
     }
 }
 
-impl fmt::Display for Owner {
+impl fmt::Display for FileOwner {
     fn fmt<W: fmt::Write>(&self, f: &mut fmt::Formatter<W>) -> fmt::Result {
-        let Owner { owner, mode, user } = *self;
+        let FileOwner { owner, mode, user } = *self;
         if owner == user {
             return write!(
                 f,
@@ -66,17 +66,17 @@ pub enum OpenReason {
     /// The folder isn't there.
     NoFolder,
     /// No file may be made in the folder.
-    Folder(Owner),
+    Folder(FileOwner),
     /// It is a folder, a device or the like.
     NoFile,
     /// It has several names: how many.
     Names(u64),
     /// It may not be read and written.
-    File(Owner),
+    File(FileOwner),
     /// The file's log is no file of its own.
     NoLog,
     /// The file's log may not be read and written.
-    Log(Owner),
+    Log(FileOwner),
     /// SQLite left a rollback journal of the file.
     Journal,
     /// A log that was given up before is at its path with `-wal.lost`.
@@ -129,7 +129,7 @@ impl fmt::Display for OpenReason {
 /// Why no file can be made in the folder of this path.
 fn reason_of_folder(rt: &HostRuntime, path: &str) -> OpenReason {
     match fs::metadata(rt, folder_of(path)) {
-        Ok(folder) => OpenReason::Folder(Owner::of(&folder)),
+        Ok(folder) => OpenReason::Folder(FileOwner::of(&folder)),
         Err(e) => OpenReason::Other(e.kind()),
     }
 }
@@ -152,7 +152,7 @@ fn reason_of_making(rt: &HostRuntime, paths: &Paths) -> OpenReason {
 }
 
 /// What opening a file that is there for reading and writing gives.
-fn opens(rt: &HostRuntime, path: &str) -> Result<(), ErrorKind> {
+fn try_open(rt: &HostRuntime, path: &str) -> Result<(), ErrorKind> {
     match OpenOptions::new().read(true).write(true).open(rt, path) {
         Ok(_) => Ok(()),
         Err(e) => Err(e.kind()),
@@ -169,8 +169,8 @@ fn reason_of_log(rt: &HostRuntime, paths: &Paths) -> OpenReason {
     if !found.is_file() || found.nlink() != 1 {
         return OpenReason::NoLog;
     }
-    match opens(rt, &paths.log) {
-        Err(ErrorKind::PermissionDenied) => OpenReason::Log(Owner::of(&found)),
+    match try_open(rt, &paths.log) {
+        Err(ErrorKind::PermissionDenied) => OpenReason::Log(FileOwner::of(&found)),
         Err(kind) => OpenReason::Other(kind),
         Ok(()) => OpenReason::Again,
     }
@@ -189,8 +189,8 @@ fn reason_of_file(rt: &HostRuntime, paths: &Paths, found: &Metadata) -> OpenReas
     if found.nlink() != 1 {
         return OpenReason::Names(found.nlink());
     }
-    match opens(rt, &paths.file) {
-        Err(ErrorKind::PermissionDenied) => OpenReason::File(Owner::of(found)),
+    match try_open(rt, &paths.file) {
+        Err(ErrorKind::PermissionDenied) => OpenReason::File(FileOwner::of(found)),
         Err(kind) => OpenReason::Other(kind),
         Ok(()) => match reason_of_log(rt, paths) {
             OpenReason::Again if has_journal(rt, paths) => OpenReason::Journal,
@@ -213,17 +213,17 @@ fn reason_of(rt: &HostRuntime, paths: &Paths) -> OpenReason {
 }
 
 /// Why the file at a path wasn't opened.
-pub(crate) fn unopened(rt: &HostRuntime, path: &str) -> TabledFault {
+pub(crate) fn open_fault(rt: &HostRuntime, path: &str) -> TableRunFault {
     match Paths::resolved(rt, path) {
-        Ok(paths) => TabledFault::Unopened(reason_of(rt, &paths)),
-        Err(fault) => TabledFault::Run(fault),
+        Ok(paths) => TableRunFault::Unopened(reason_of(rt, &paths)),
+        Err(fault) => TableRunFault::Run(fault),
     }
 }
 
 /// Why the file at a path isn't opened where none is to be made.
-pub fn not_there(rt: &HostRuntime, path: &str) -> TabledFault {
+pub fn missing_fault(rt: &HostRuntime, path: &str) -> TableRunFault {
     match fs::metadata(rt, path) {
-        Err(e) if e.kind() == ErrorKind::NotFound => TabledFault::Unopened(OpenReason::Missing),
-        _ => unopened(rt, path),
+        Err(e) if e.kind() == ErrorKind::NotFound => TableRunFault::Unopened(OpenReason::Missing),
+        _ => open_fault(rt, path),
     }
 }

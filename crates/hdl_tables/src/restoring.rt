@@ -3,8 +3,8 @@
 ghost use Rattle.std.specs.Prelude.{◌≡◌, false};
 
 use crate::copying::{CopyFault, copy_both};
-use crate::fault::TabledFault;
-use crate::pair::{Note, close_noted, hold, open_copy};
+use crate::fault::TableRunFault;
+use crate::pair::{LogNote, close_with_note, lock_file, open_copy};
 use crate::paths::{Paths, folder_of};
 use crate::reasons::PathReason;
 use hdl_lastingrows::{Store, TableFault};
@@ -121,9 +121,9 @@ impl From<CopyFault> for RestoreFault {
 
 /// Hears nothing.
 #[derive(Drop)]
-struct Silent;
+struct NoProgress;
 
-impl Progress for Silent {
+impl Progress for NoProgress {
     fn handles(&mut self, _count: u64) {}
 
     fn values(&mut self, _count: u64) {}
@@ -161,7 +161,7 @@ fn access_at(rt: &HostRuntime, path: &str) -> Result<Access, RestoreFault> {
 }
 
 /// Sees that the folder of the table is there.
-fn look_at_folder(rt: &HostRuntime, path: &str) -> Result<(), RestoreFault> {
+fn check_folder(rt: &HostRuntime, path: &str) -> Result<(), RestoreFault> {
     match fs::metadata(rt, folder_of(path)) {
         Ok(_) => Ok(()),
         Err(e) => Err(RestoreFault::Folder(e.kind())),
@@ -169,7 +169,7 @@ fn look_at_folder(rt: &HostRuntime, path: &str) -> Result<(), RestoreFault> {
 }
 
 /// Gives the file this access.
-fn give(rt: &HostRuntime, path: &str, access: Access) -> Result<(), RestoreFault> {
+fn give_access(rt: &HostRuntime, path: &str, access: Access) -> Result<(), RestoreFault> {
     let Access { owner, group, mode } = access;
     match chown(rt, path, Some(owner), Some(group)) {
         Ok(()) => {}
@@ -192,7 +192,7 @@ fn read_rows(rt: &HostRuntime, conn: &mut Connection<Store>) -> Result<(), Table
     match tables_of(conn) {
         FoundDatabase::Tables => {
             let mut rows = PlainRows::new(rt.alloc());
-            load(conn, rt.alloc(), &mut rows, &mut Silent)?;
+            load(conn, rt.alloc(), &mut rows, &mut NoProgress)?;
             Ok(())
         }
         _ => Err(TableFault::Layout),
@@ -200,18 +200,18 @@ fn read_rows(rt: &HostRuntime, conn: &mut Connection<Store>) -> Result<(), Table
 }
 
 /// Sees that a copy is a table, each row of it sound, and makes it whole without its log.
-fn check_copy(rt: &HostRuntime, path: &str) -> Result<(), TabledFault> {
+fn check_copy(rt: &HostRuntime, path: &str) -> Result<(), TableRunFault> {
     let mut conn = open_copy(rt, path)?;
     read_rows(rt, &mut conn)?;
-    close_noted(rt, conn, Note::Whole)
+    close_with_note(rt, conn, LogNote::Whole)
 }
 
 /// Why a copy isn't taken in which this is wrong.
-fn untaken(fault: TabledFault) -> TabledFault {
+fn copy_fault(fault: TableRunFault) -> TableRunFault {
     match fault {
-        TabledFault::Table(TableFault::Memory) => TabledFault::from(Fault::NoMemory),
-        TabledFault::Table(fault) => TabledFault::from(RestoreFault::Copy(fault)),
-        TabledFault::Pair(fault) => TabledFault::from(RestoreFault::Pair(fault)),
+        TableRunFault::Table(TableFault::Memory) => TableRunFault::from(Fault::NoMemory),
+        TableRunFault::Table(fault) => TableRunFault::from(RestoreFault::Copy(fault)),
+        TableRunFault::Pair(fault) => TableRunFault::from(RestoreFault::Pair(fault)),
         other => other,
     }
 }
@@ -263,25 +263,30 @@ fn replace(rt: &HostRuntime, from: &Paths, to: &Paths) -> Result<(), RestoreFaul
 }
 
 /// Copies the two files next to the table, checks them, and puts them in its place.
-fn place_copy(rt: &HostRuntime, from: &Paths, new: &Paths, to: &Paths) -> Result<(), TabledFault> {
+fn install_copy(
+    rt: &HostRuntime,
+    from: &Paths,
+    new: &Paths,
+    to: &Paths,
+) -> Result<(), TableRunFault> {
     if let Err(fault) = copy_both(rt, from, new) {
-        return Err(TabledFault::from(RestoreFault::from(fault)));
+        return Err(TableRunFault::from(RestoreFault::from(fault)));
     }
     if let Err(fault) = check_copy(rt, &new.file) {
-        return Err(untaken(fault));
+        return Err(copy_fault(fault));
     }
-    give(rt, &new.file, access_at(rt, &to.file)?)?;
+    give_access(rt, &new.file, access_at(rt, &to.file)?)?;
     replace(rt, new, to)?;
     Ok(())
 }
 
 /// The paths of what is next to the table until it is whole, where nothing is yet.
-fn paths_beside(rt: &HostRuntime, to: &Paths) -> Result<Paths, TabledFault> {
+fn staging_paths(rt: &HostRuntime, to: &Paths) -> Result<Paths, TableRunFault> {
     let file = format!(in rt.alloc(); "{}.restored", to.file).map_err(Fault::from)?;
     let new = Paths::at(rt, &file)?;
     for left in [&new.file, &new.log, &to.aside] {
         if fs::symlink_metadata(rt, left).is_ok() {
-            return Err(TabledFault::from(RestoreFault::Left));
+            return Err(TableRunFault::from(RestoreFault::Left));
         }
     }
     Ok(new)
@@ -289,15 +294,15 @@ fn paths_beside(rt: &HostRuntime, to: &Paths) -> Result<Paths, TabledFault> {
 
 /// Puts the copy of a table's file in the place of the file, which no server may have open. It is checked first, and gets the owner and the permissions of
 /// what it replaces, or the owner of the folder.
-pub fn restore_table(rt: &HostRuntime, from: &str, to: &str) -> Result<(), TabledFault> {
+pub fn restore_table(rt: &HostRuntime, from: &str, to: &str) -> Result<(), TableRunFault> {
     if let Err(e) = File::open(rt, from) {
-        return Err(TabledFault::from(RestoreFault::From(e.kind())));
+        return Err(TableRunFault::from(RestoreFault::From(e.kind())));
     }
-    let _held = hold(rt, to)?;
-    look_at_folder(rt, to)?;
+    let _locked = lock_file(rt, to)?;
+    check_folder(rt, to)?;
     let (from, to) = (Paths::resolved(rt, from)?, Paths::resolved(rt, to)?);
-    let new = paths_beside(rt, &to)?;
-    match place_copy(rt, &from, &new, &to) {
+    let new = staging_paths(rt, &to)?;
+    match install_copy(rt, &from, &new, &to) {
         Ok(()) => Ok(()),
         Err(fault) => {
             let _ = remove(rt, &new.log);

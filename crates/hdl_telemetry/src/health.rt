@@ -55,7 +55,7 @@ pub struct Health {
     commits: Histogram,
     /// How many octets of memory are kept aside, whether they couldn't be had when that was seen last, and how many changes were refused for that.
     reserve: usize,
-    is_short: AtomicBool,
+    is_memory_short: AtomicBool,
     refusals: AtomicU64,
 }
 
@@ -77,7 +77,7 @@ impl Health {
             failures: AtomicU64::new(0),
             commits: Histogram::new(alloc)?,
             reserve,
-            is_short: AtomicBool::new(false),
+            is_memory_short: AtomicBool::new(false),
             refusals: AtomicU64::new(0),
         })
     }
@@ -145,13 +145,13 @@ impl Health {
     /// Sees whether as much memory can be had as is kept aside.
     pub fn check_memory(&self, alloc: Global) -> bool {
         let is_there = can_allocate(alloc, self.reserve);
-        self.is_short.store(!is_there, SeqCst);
+        self.is_memory_short.store(!is_there, SeqCst);
         is_there
     }
 
     /// Whether less could be had when that was seen last.
-    pub fn is_short(&self) -> bool {
-        self.is_short.load(SeqCst)
+    pub fn is_memory_short(&self) -> bool {
+        self.is_memory_short.load(SeqCst)
     }
 
     /// A change was refused, since less memory could be had.
@@ -179,7 +179,7 @@ impl Health {
             Some(
                 "the last change couldn't be written: the disk may be full, or memory short; reads go on\n",
             )
-        } else if self.is_short() {
+        } else if self.is_memory_short() {
             Some(
                 "memory is short: changes that need memory are answered busy; reads, deletes and removes go on\n",
             )

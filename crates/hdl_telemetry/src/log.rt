@@ -19,7 +19,7 @@ use std::time::Duration;
 const LINES_MOST: usize = 1024;
 
 /// For how many milliseconds the thread sleeps that found no line.
-const PAUSE: u64 = 20;
+const PAUSE_MILLIS: u64 = 20;
 
 /// How many files wait at most to be written to.
 const FILES_MOST: usize = 1;
@@ -201,7 +201,7 @@ impl Log {
             if has_ended {
                 break;
             }
-            thread::sleep(rt, Duration::from_millis(PAUSE));
+            thread::sleep(rt, Duration::from_millis(PAUSE_MILLIS));
         }
         self.writer.status.set_written();
     }

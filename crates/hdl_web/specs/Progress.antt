@@ -9,4 +9,4 @@ abbrev pub Waits : ℕ → Progress → Type 0
 Waits source (Awaited from) = source ≡ completed_source from
 Waits source (Answered answer) = ⊥
 Waits source (Text text) = ⊥
-Waits source (Redirected way) = ⊥
+Waits source (Redirected redirect) = ⊥

@@ -20,7 +20,7 @@ pub(crate) trait ConnectionHandler: Drop {
         ensures { IfSome result Self.Served.can_poll };
 
     /// How long no client is received if the process has no room for another connection. None where memory was refused.
-    fn rest(&self) -> Option<Sleep>;
+    fn pause(&self) -> Option<Sleep>;
 }
 
 /// Each connection of a listener, as its host serves it.
@@ -52,7 +52,7 @@ impl<H: ConnectionHandler> AcceptedConnections<H> {
                 None => cx.yield_now(),
             },
             Some(Err(_)) => {
-                self.resting = self.host.rest();
+                self.resting = self.host.pause();
                 cx.yield_now()
             }
             None => Poll::Ready(None),

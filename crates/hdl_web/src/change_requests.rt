@@ -2,10 +2,10 @@
 
 ghost use Rattle.std.specs.Prelude.{◌≡◌};
 
-use crate::asks::AnswerResult;
-use crate::redirect_cache::KeptRedirect;
+use crate::pending_question::AnswerResult;
+use crate::redirect_cache::CachedRedirect;
 use crate::shared::{Shared, WAITING_MOST};
-use crate::text::OwnText;
+use crate::text::ProxyText;
 use crate::worker::{ChangeJob, OrderForm, as_page};
 use bytes::Bytes;
 use crossbeam_channel::Sender;
@@ -30,7 +30,7 @@ pub(crate) const BODY_MOST: usize = 1_048_576;
 pub(crate) const BODY_SECONDS: u64 = 10;
 
 /// What came of a body: all of it, or why not, unless its time was over before.
-pub(crate) type Gathered = Result<Result<Collected, LimitedError<hyper::Error>>, Elapsed>;
+pub(crate) type CollectedBody = Result<Result<Collected, LimitedError<hyper::Error>>, Elapsed>;
 
 /// What is next for a request.
 #[derive(Drop)]
@@ -38,9 +38,9 @@ pub(crate) enum Progress {
     Answered(AnswerResult),
     Awaited(oneshot::Receiver<AnswerResult>),
     /// A text of the proxy's own.
-    Text(OwnText),
+    Text(ProxyText),
     /// A redirect that was kept.
-    Redirected(Arc<KeptRedirect>),
+    Redirected(Arc<CachedRedirect>),
 }
 
 /// The way to who carries out orders.
@@ -73,9 +73,9 @@ impl<R: Wait + Clock> ChangeQueue<R> {
         &self,
         jobs: &Sender<ChangeJob>,
         turn: Vec<usize>,
-        bundle: Bundle,
+        pending: PendingChange,
     ) -> Result<Progress, AllocError> {
-        let Bundle { order, body, form } = bundle;
+        let PendingChange { order, body, form } = pending;
         let (answer, from) = oneshot::channel(self.alloc)?;
         let job = ChangeJob {
             order,
@@ -90,21 +90,21 @@ impl<R: Wait + Clock> ChangeQueue<R> {
         }
     }
 
-    fn hand_on(&self, bundle: Bundle) -> Result<Progress, AllocError> {
-        let Some((jobs, turn)) = self.shared.change_servers(bundle.order.name.prefix())? else {
+    fn enqueue(&self, pending: PendingChange) -> Result<Progress, AllocError> {
+        let Some((jobs, turn)) = self.shared.change_servers(pending.order.name.prefix())? else {
             let code = ResponseCode::HandleNotFound;
-            return Ok(self.refuse_order(bundle, Status::NotFound, code, ELSEWHERE));
+            return Ok(self.refuse_order(pending, Status::NotFound, code, ELSEWHERE));
         };
         if jobs.len() >= WAITING_MOST {
             let code = ResponseCode::ServerBusy;
-            return Ok(self.refuse_order(bundle, Status::Unavailable, code, CROWDED));
+            return Ok(self.refuse_order(pending, Status::Unavailable, code, CROWDED));
         }
-        self.send(jobs, turn, bundle)
+        self.send(jobs, turn, pending)
     }
 
     /// Hands an order on with the body of its request.
     pub(crate) fn take(&self, order: Order, body: Bytes) -> Progress {
-        turn_of(self.hand_on(Bundle {
+        progress_of(self.enqueue(PendingChange {
             order,
             body,
             form: None,
@@ -113,7 +113,7 @@ impl<R: Wait + Clock> ChangeQueue<R> {
 
     fn refuse_order(
         &self,
-        bundle: Bundle,
+        pending: PendingChange,
         status: Status,
         code: ResponseCode,
         why: &str,
@@ -121,11 +121,11 @@ impl<R: Wait + Clock> ChangeQueue<R> {
         let made = refusal(
             self.alloc,
             status,
-            bundle.order.name.sent(),
+            pending.order.name.sent(),
             code.number(),
             why,
         );
-        Progress::Answered(as_page(self.alloc, bundle.form, made))
+        Progress::Answered(as_page(self.alloc, pending.form, made))
     }
 
     /// What is next for a form with this body.
@@ -138,7 +138,7 @@ impl<R: Wait + Clock> ChangeQueue<R> {
             FormStep::Page(answer) => Ok(Progress::Answered(Ok(answer))),
             FormStep::Order(ordered, form) => {
                 let FormOrder { order, body } = ordered;
-                self.hand_on(Bundle {
+                self.enqueue(PendingChange {
                     order,
                     body: Bytes::copy_from_slice(self.alloc, &body)?,
                     form: Some(OrderForm::Change(form)),
@@ -155,7 +155,7 @@ impl<R: Wait + Clock> ChangeQueue<R> {
         };
         match take_list(self.alloc, &self.shared.tokens, sent)? {
             ListStep::Page(answer) => Ok(Progress::Answered(Ok(answer))),
-            ListStep::Order(order, request) => self.hand_on(Bundle {
+            ListStep::Order(order, request) => self.enqueue(PendingChange {
                 order,
                 body: Bytes::new(),
                 form: Some(OrderForm::List(request)),
@@ -167,8 +167,8 @@ impl<R: Wait + Clock> ChangeQueue<R> {
     fn take_body(&self, purpose: Purpose, body: Bytes) -> Progress {
         match purpose {
             Purpose::Order(order) => self.take(order, body),
-            Purpose::Form(place) => turn_of(self.take_form(&place, &body)),
-            Purpose::List => turn_of(self.take_list(&body)),
+            Purpose::Form(place) => progress_of(self.take_form(&place, &body)),
+            Purpose::List => progress_of(self.take_list(&body)),
         }
     }
 
@@ -183,8 +183,12 @@ impl<R: Wait + Clock> ChangeQueue<R> {
     }
 
     /// Takes the body of a request, where that came whole and in time.
-    pub(crate) fn take_gathered(&self, purpose: Purpose, gathered: Gathered) -> Progress {
-        match gathered {
+    pub(crate) fn take_collected(
+        &self,
+        purpose: Purpose,
+        collected_body: CollectedBody,
+    ) -> Progress {
+        match collected_body {
             Ok(Ok(collected)) => match collected.to_bytes() {
                 Ok(body) => self.take_body(purpose, body),
                 Err(refused) => Progress::Answered(Err(refused)),
@@ -202,14 +206,14 @@ impl<R: Wait + Clock> ChangeQueue<R> {
 
 /// An order, the body of its request, and the form that it came by, if it did.
 #[derive(Drop)]
-struct Bundle {
+struct PendingChange {
     order: Order,
     body: Bytes,
     form: Option<OrderForm>,
 }
 
 /// What is next, or that there was no memory.
-fn turn_of(next: Result<Progress, AllocError>) -> Progress {
+fn progress_of(next: Result<Progress, AllocError>) -> Progress {
     match next {
         Ok(turn) => turn,
         Err(refused) => Progress::Answered(Err(refused)),
@@ -218,20 +222,20 @@ fn turn_of(next: Result<Progress, AllocError>) -> Progress {
 
 /// A request whose body comes.
 #[derive(Drop)]
-pub(crate) struct Gathering<R, B> {
+pub(crate) struct BodyCollector<R, B> {
     pub(crate) change_queue: ChangeQueue<R>,
     pub(crate) purpose: Purpose,
     pub(crate) body: B,
 }
 
-impl<R: Wait + Clock + Drop, B: Drop> Gathering<R, B> {
+impl<R: Wait + Clock + Drop, B: Drop> BodyCollector<R, B> {
     /// What is next, now that this came of the body.
-    pub(crate) fn end(self, gathered: Gathered) -> Progress {
-        let Gathering {
+    pub(crate) fn end(self, collected_body: CollectedBody) -> Progress {
+        let BodyCollector {
             change_queue,
             purpose,
             body: _,
         } = self;
-        change_queue.take_gathered(purpose, gathered)
+        change_queue.take_collected(purpose, collected_body)
     }
 }

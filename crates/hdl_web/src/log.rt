@@ -60,7 +60,7 @@ pub(crate) struct AccessLogEntry {
 
 /// A visit that isn't over yet.
 #[derive(Drop)]
-pub(crate) struct Open<R> {
+pub(crate) struct PendingEntry<R> {
     pub(crate) shared: Arc<Shared<R>>,
     asked: Option<RequestLine>,
 }
@@ -125,14 +125,14 @@ impl<R: Wait + Clock> Shared<R> {
     }
 }
 
-impl<R: Wait + Clock> Open<R> {
+impl<R: Wait + Clock> PendingEntry<R> {
     /// A visit begins. Without memory it has no line.
-    pub(crate) fn new(shared: Arc<Shared<R>>, method: &str, path: &str) -> Open<R> {
+    pub(crate) fn new(shared: Arc<Shared<R>>, method: &str, path: &str) -> PendingEntry<R> {
         let asked = match &shared.entries {
             Some(_) => begin_line(&shared.rt, shared.alloc, method, path),
             None => None,
         };
-        Open { shared, asked }
+        PendingEntry { shared, asked }
     }
 
     /// Notes that the visit is over, with this answer: counts it, and writes its line.

@@ -1,8 +1,8 @@
 //! The program `hdl proxy`, over HTTP/1.1: sockets, threads and time around `hdl_proxy`, which has what is asked and answered.
 //!
 //! ```text
-//! hyper, event loops -> ProxyService: begin -> at once, or a channel -> a thread for each asker: ask, next_step -> Answering -> hyper
-//!                      with --writes: begin_with_key, the body -> a channel -> one thread: carry_out -> Answering -> hyper
+//! hyper, event loops -> ProxyService: begin -> at once, or a channel -> a thread for each asker: ask, next_step -> ResponseFuture -> hyper
+//!                      with --writes: begin_with_key, the body -> a channel -> one thread: carry_out -> ResponseFuture -> hyper
 //! ```
 //!
 //! A thread that serves, one or as many as are asked for, never waits for a server: each asker (`Server`) has a thread of its own, and
@@ -12,24 +12,24 @@
 #![tactic(auto)]
 
 mod accepted;
-mod answering;
-mod asks;
 mod change_requests;
 mod event_loop;
 mod lifetime;
 mod log;
 mod logged;
 mod metrics;
+mod options;
 mod owners;
+mod pending_question;
 mod redirect_cache;
 mod response;
+mod response_future;
 mod servers;
 mod service;
 mod serving;
 mod shared;
 mod standbys;
 mod text;
-mod words;
 mod worker;
 mod workers;
 mod write_timeout;
@@ -39,8 +39,9 @@ use hdl_copied::{CopiedHandles, read_copy};
 use hdl_proxy::{Site, is_site_address};
 use hdl_routes::{Route, read_route};
 use log::Log;
+use options::{Invocation, ProxyOptions, read_arguments};
 use rand::make_rng;
-use servers::{OrderCarrier, Server};
+use servers::{ChangeExecutor, Server};
 use serving::{Listening, serve_http};
 use std::alloc::AllocError;
 use std::fs::OpenOptions;
@@ -49,7 +50,6 @@ use std::net::SocketAddr;
 use std::process::ExitCode;
 use std::sync::Arc;
 use std::time::Duration;
-use words::{Invocation, ProxyWords, read_words};
 use workers::{Config, ProxyWorkers, UpstreamWorkers};
 
 /// Whether an address is a host, a colon and the number of a port. An IPv6 address is in brackets.
@@ -95,7 +95,7 @@ fn add_routes(
 }
 
 /// The servers that the words name. None if a word names none, which is reported, or if memory was refused.
-fn routes(rt: &HostRuntime, words: &ProxyWords) -> Option<Vec<Route>> {
+fn routes(rt: &HostRuntime, words: &ProxyOptions) -> Option<Vec<Route>> {
     let mut routes = Vec::new(rt.alloc());
     add_routes(rt, &mut routes, &words.servers, false)?;
     add_routes(rt, &mut routes, &words.standbys, true)?;
@@ -103,12 +103,16 @@ fn routes(rt: &HostRuntime, words: &ProxyWords) -> Option<Vec<Route>> {
 }
 
 /// The server as one asker has it, which asks one question at a time.
-fn asker(rt: &HostRuntime, words: &ProxyWords, route: &Route) -> Result<Server, AllocError> {
+fn asker(rt: &HostRuntime, words: &ProxyOptions, route: &Route) -> Result<Server, AllocError> {
     Server::new(*rt, &route.address, Duration::from_secs(words.timeout))
 }
 
 /// The askers of this server: as many as it is asked questions at once.
-fn askers(rt: &HostRuntime, words: &ProxyWords, route: &Route) -> Result<Vec<Server>, AllocError> {
+fn askers(
+    rt: &HostRuntime,
+    words: &ProxyOptions,
+    route: &Route,
+) -> Result<Vec<Server>, AllocError> {
     let mut askers = Vec::new(rt.alloc());
     for _ in 0..words.askers {
         match askers.push(asker(rt, words, route)?) {
@@ -120,7 +124,7 @@ fn askers(rt: &HostRuntime, words: &ProxyWords, route: &Route) -> Result<Vec<Ser
 }
 
 /// The handles of the copy that the words name, if they name one. A fault is reported, and then there are none.
-fn copied(rt: &HostRuntime, words: &ProxyWords) -> Result<Option<CopiedHandles>, ExitCode> {
+fn copied(rt: &HostRuntime, words: &ProxyOptions) -> Result<Option<CopiedHandles>, ExitCode> {
     let Some(path) = &words.lists else {
         return Ok(None);
     };
@@ -146,10 +150,10 @@ fn shared_copy(
 /// What carries out orders, if any are taken.
 fn writer(
     rt: &HostRuntime,
-    words: &ProxyWords,
+    words: &ProxyOptions,
     routes: &[Route],
     copied: &Option<Arc<CopiedHandles>>,
-) -> io::Result<Option<OrderCarrier>> {
+) -> io::Result<Option<ChangeExecutor>> {
     if !words.writes {
         return Ok(None);
     }
@@ -159,16 +163,16 @@ fn writer(
     }
     let rng = make_rng(rt)?;
     let copied = shared_copy(copied)?;
-    Ok(Some(OrderCarrier::new(servers, rng, copied, Vec::new(rt.alloc()))))
+    Ok(Some(ChangeExecutor::new(servers, rng, copied, Vec::new(rt.alloc()))))
 }
 
 /// The servers, and who asks each.
 fn start_workers(
     rt: &HostRuntime,
-    words: &ProxyWords,
+    words: &ProxyOptions,
     routes: Vec<Route>,
     copied: Option<CopiedHandles>,
-) -> io::Result<ProxyWorkers<Server, OrderCarrier>> {
+) -> io::Result<ProxyWorkers<Server, ChangeExecutor>> {
     let copied = match copied {
         Some(copied) => Some(Arc::new(rt.alloc(), copied)?),
         None => None,
@@ -197,7 +201,7 @@ fn start_workers(
 }
 
 /// The site of all pages.
-fn site(rt: &HostRuntime, words: &ProxyWords) -> Result<Site, AllocError> {
+fn site(rt: &HostRuntime, words: &ProxyOptions) -> Result<Site, AllocError> {
     let contact = words.contact.as_ref().map(|contact| contact.as_str());
     let address = words.address.as_ref().map(|address| address.as_str());
     let redirects = u32::try_from(words.redirects).unwrap_or(0);
@@ -205,7 +209,7 @@ fn site(rt: &HostRuntime, words: &ProxyWords) -> Result<Site, AllocError> {
 }
 
 /// Whether the address that the words name, if they name one, is that of a site. If it isn't, that is reported.
-fn is_address_fit(rt: &HostRuntime, words: &ProxyWords) -> bool {
+fn is_address_fit(rt: &HostRuntime, words: &ProxyOptions) -> bool {
     match &words.address {
         Some(address) if !is_site_address(address.as_str()) => {
             let _ = eprintln!(rt;
@@ -218,7 +222,7 @@ fn is_address_fit(rt: &HostRuntime, words: &ProxyWords) -> bool {
 }
 
 /// Whether the contact that the words name, if they name one, is a mail address or a URL. If it isn't, that is reported.
-fn is_contact_fit(rt: &HostRuntime, words: &ProxyWords) -> bool {
+fn is_contact_fit(rt: &HostRuntime, words: &ProxyOptions) -> bool {
     match &words.contact {
         Some(contact) if !contact.contains('@') && !contact.contains("://") => {
             let _ = eprintln!(rt;
@@ -231,12 +235,12 @@ fn is_contact_fit(rt: &HostRuntime, words: &ProxyWords) -> bool {
 }
 
 /// Whether all that the words name has its form. What hasn't is reported.
-fn are_words_fit(rt: &HostRuntime, words: &ProxyWords) -> bool {
+fn are_words_fit(rt: &HostRuntime, words: &ProxyOptions) -> bool {
     is_address_fit(rt, words) && is_contact_fit(rt, words) && are_addresses_fit(rt, words)
 }
 
 /// The log of visits, if there is one. A file that can't be written is reported.
-fn lines_to(rt: &HostRuntime, words: &ProxyWords) -> Result<Option<Log>, ExitCode> {
+fn lines_to(rt: &HostRuntime, words: &ProxyOptions) -> Result<Option<Log>, ExitCode> {
     let Some(path) = &words.log else {
         return Ok(None);
     };
@@ -257,7 +261,7 @@ fn lines_to(rt: &HostRuntime, words: &ProxyWords) -> Result<Option<Log>, ExitCod
 }
 
 /// Whether each word for an address to listen at is an IP address with a port. The first that isn't is reported.
-fn are_addresses_fit(rt: &HostRuntime, words: &ProxyWords) -> bool {
+fn are_addresses_fit(rt: &HostRuntime, words: &ProxyOptions) -> bool {
     for word in &words.listen {
         if word.parse::<SocketAddr>().is_err() {
             let _ = eprintln!(rt;
@@ -272,7 +276,7 @@ fn are_addresses_fit(rt: &HostRuntime, words: &ProxyWords) -> bool {
 /// Adds what listens at the address that this word names.
 fn listen(
     rt: &HostRuntime,
-    words: &ProxyWords,
+    words: &ProxyOptions,
     word: &str,
     listening: &mut Listening,
 ) -> io::Result<()> {
@@ -295,7 +299,7 @@ fn advice_on(kind: ErrorKind) -> &'static str {
 }
 
 /// What listens at the addresses that the words name. None if one of them can't be had, which is reported.
-fn listening(rt: &HostRuntime, words: &ProxyWords) -> Option<Listening> {
+fn listening(rt: &HostRuntime, words: &ProxyOptions) -> Option<Listening> {
     let mut listening = Listening {
         addresses: Vec::new(rt.alloc()),
         loops: Vec::new(rt.alloc()),
@@ -311,7 +315,7 @@ fn listening(rt: &HostRuntime, words: &ProxyWords) -> Option<Listening> {
 }
 
 fn main(rt: HostRuntime) -> ExitCode {
-    let words = match read_words(&rt) {
+    let words = match read_arguments(&rt) {
         Invocation::Proxy(words) => words,
         Invocation::Ended(status) => return ExitCode::from(status),
     };

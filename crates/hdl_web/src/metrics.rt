@@ -148,7 +148,7 @@ impl<R: Wait + Clock> Shared<R> {
             ServerMetric::Asked => upstream.asked.load(Ordering::Relaxed),
             ServerMetric::Failed => upstream.failed.load(Ordering::Relaxed),
             ServerMetric::LeftOut => {
-                u64::from(upstream.standing.lock(&self.rt).is_left_out(self.now()))
+                u64::from(upstream.health.lock(&self.rt).is_left_out(self.now()))
             }
             ServerMetric::Waiting => upstream.asks.len() as u64,
         }
@@ -192,8 +192,8 @@ impl<R: Wait + Clock> Shared<R> {
     }
 
     /// Whether a server is asked.
-    pub(crate) fn is_fit(&self) -> bool {
+    pub(crate) fn is_healthy(&self) -> bool {
         let now = self.now();
-        self.upstreams.iter().any(|upstream| !upstream.standing.lock(&self.rt).is_left_out(now))
+        self.upstreams.iter().any(|upstream| !upstream.health.lock(&self.rt).is_left_out(now))
     }
 }

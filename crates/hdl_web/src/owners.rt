@@ -9,7 +9,7 @@ use std::num::NonZeroUsize;
 const PREFIXES_MOST: usize = 4096;
 
 /// For how many milliseconds the proxy remembers which server has a prefix.
-const REMEMBERED: u64 = 60_000;
+const OWNER_MILLIS: u64 = 60_000;
 
 /// The server at this place has a prefix, until a moment.
 #[derive(Clone, Copy)]
@@ -35,14 +35,14 @@ impl PrefixOwners {
     /// The place of the server that has this prefix, if that is known at this moment.
     pub(crate) fn of(&mut self, prefix: &[u8], now: u64) -> Option<usize> {
         match self.kept.get(prefix) {
-            Some(holder) if now < holder.until => Some(holder.place),
+            Some(owner) if now < owner.until => Some(owner.place),
             _ => None,
         }
     }
 
     /// The server at this place has this prefix. Want of memory forgets it.
     pub(crate) fn note(&mut self, prefix: &[u8], place: usize, now: u64) {
-        let until = now.saturating_add(REMEMBERED);
+        let until = now.saturating_add(OWNER_MILLIS);
         if let Ok(key) = Vec::from_slice(self.alloc, prefix) {
             let _ = self.kept.put(key, PrefixOwner { place, until });
         }

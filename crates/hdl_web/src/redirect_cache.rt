@@ -7,7 +7,7 @@ use crate::response::headers_of;
 use bytes::Bytes;
 use hdl_msg::{ContentView, read_reply};
 use hdl_proxy::{Answer, Status};
-use hdl_routes::KeptReplies;
+use hdl_routes::ReplyCache;
 use hdl_value::Wire;
 use http::StatusCode;
 use http::header::{HeaderMap, HeaderValue};
@@ -20,24 +20,24 @@ use std::num::NonZeroUsize;
 use std::sync::Arc;
 
 /// The most redirects that are kept.
-const WAYS_MOST: usize = 4096;
+const REDIRECTS_MOST: usize = 4096;
 
 /// The most octets of the path, the question and the reply of a redirect that is kept, together.
-const WAY_MOST: usize = 4096;
+const REDIRECT_OCTETS_MOST: usize = 4096;
 
 /// The type of a value that says several locations.
 const LOCATIONS: &[u8] = b"10320/loc";
 
 /// A redirect as it was answered, and of which reply to which question it was made.
 #[derive(Drop)]
-pub(crate) struct KeptRedirect {
+pub(crate) struct CachedRedirect {
     message: Vec<u8>,
     reply: Vec<u8>,
     headers: HeaderMap<HeaderValue>,
     body: Bytes,
 }
 
-impl KeptRedirect {
+impl CachedRedirect {
     /// How many octets its body has.
     pub(crate) fn octets(&self) -> usize {
         self.body.len()
@@ -74,16 +74,16 @@ fn is_drawn(alloc: Global, reply: &[u8]) -> bool {
 
 /// What a question's reply was answered by, as it may be given again: a redirect that any such question has. None where it is anything else, or
 /// memory was refused.
-fn way_of(
+fn redirect_of(
     alloc: Global,
     message: Vec<u8>,
     reply: Vec<u8>,
     answer: &Answer,
-) -> Option<KeptRedirect> {
+) -> Option<CachedRedirect> {
     if answer.status != Status::Found || is_drawn(alloc, &reply) {
         return None;
     }
-    Some(KeptRedirect {
+    Some(CachedRedirect {
         message,
         reply,
         headers: headers_of(alloc, answer, false).ok()?,
@@ -95,63 +95,63 @@ fn way_of(
 #[derive(Drop)]
 struct RedirectCache {
     alloc: Global,
-    ways: LruCache<String, Arc<KeptRedirect>, RandomState>,
+    redirects: LruCache<String, Arc<CachedRedirect>, RandomState>,
 }
 
 impl RedirectCache {
     fn new(alloc: Global, hasher: RandomState) -> Result<RedirectCache, AllocError> {
-        let most = NonZeroUsize::new(WAYS_MOST).unwrap_or(NonZeroUsize::MIN);
-        let ways = LruCache::with_hasher(alloc, most, hasher)?;
-        Ok(RedirectCache { alloc, ways })
+        let most = NonZeroUsize::new(REDIRECTS_MOST).unwrap_or(NonZeroUsize::MIN);
+        let redirects = LruCache::with_hasher(alloc, most, hasher)?;
+        Ok(RedirectCache { alloc, redirects })
     }
 
-    fn find(&mut self, path: &str) -> Option<Arc<KeptRedirect>> {
-        let way = self.ways.get(path)?;
-        Arc::try_clone(way).ok()
+    fn find(&mut self, path: &str) -> Option<Arc<CachedRedirect>> {
+        let redirect = self.redirects.get(path)?;
+        Arc::try_clone(redirect).ok()
     }
 
     /// Keeps a redirect. Want of memory keeps nothing.
-    fn keep(&mut self, path: &str, way: KeptRedirect) {
+    fn keep(&mut self, path: &str, redirect: CachedRedirect) {
         let Ok(key) = String::from_str(self.alloc, path) else {
             return;
         };
-        if let Ok(way) = Arc::new(self.alloc, way) {
-            let _ = self.ways.put(key, way);
+        if let Ok(redirect) = Arc::new(self.alloc, redirect) {
+            let _ = self.redirects.put(key, redirect);
         }
     }
 }
 
 /// What is kept: replies, and the redirects that were made of them.
 #[derive(Drop)]
-pub(crate) struct KeptAnswers {
-    pub(crate) kept: KeptReplies,
-    ways: RedirectCache,
+pub(crate) struct AnswerCache {
+    pub(crate) kept: ReplyCache,
+    redirects: RedirectCache,
 }
 
-impl KeptAnswers {
+impl AnswerCache {
     pub(crate) fn new(
         alloc: Global,
         hasher: RandomState,
         other: RandomState,
-    ) -> Result<KeptAnswers, AllocError> {
-        Ok(KeptAnswers {
-            kept: KeptReplies::new(alloc, hasher)?,
-            ways: RedirectCache::new(alloc, other)?,
+    ) -> Result<AnswerCache, AllocError> {
+        Ok(AnswerCache {
+            kept: ReplyCache::new(alloc, hasher)?,
+            redirects: RedirectCache::new(alloc, other)?,
         })
     }
 
     /// The redirect that answers this path, if one is kept, and just the reply that it was made of is kept too, and fresh at this moment.
-    pub(crate) fn way(&mut self, path: &str, now: u64) -> Option<Arc<KeptRedirect>> {
-        let way = self.ways.find(path)?;
-        if self.kept.holds(&way.message, &way.reply, now) {
-            Some(way)
+    pub(crate) fn redirect(&mut self, path: &str, now: u64) -> Option<Arc<CachedRedirect>> {
+        let redirect = self.redirects.find(path)?;
+        if self.kept.holds(&redirect.message, &redirect.reply, now) {
+            Some(redirect)
         } else {
             None
         }
     }
 
     /// Keeps what this path was answered by, where that is a redirect that may be given again, and isn't too long.
-    pub(crate) fn keep_way(
+    pub(crate) fn keep_redirect(
         &mut self,
         path: &str,
         message: Vec<u8>,
@@ -162,11 +162,11 @@ impl KeptAnswers {
             .len()
             .saturating_add(message.len())
             .saturating_add(reply.len());
-        if octets > WAY_MOST {
+        if octets > REDIRECT_OCTETS_MOST {
             return;
         }
-        if let Some(way) = way_of(self.ways.alloc, message, reply, answer) {
-            self.ways.keep(path, way);
+        if let Some(redirect) = redirect_of(self.redirects.alloc, message, reply, answer) {
+            self.redirects.keep(path, redirect);
         }
     }
 }

@@ -6,7 +6,7 @@ ghost use Rattle.hdl_proxy.specs.Status.{status_number};
 
 use bytes::Bytes;
 use hdl_proxy::{Answer, Keeping, Media, Status};
-use hdl_routes::LEFT_OUT;
+use hdl_routes::LEFT_OUT_MILLIS;
 use http::StatusCode;
 use http::header::{
     ACCESS_CONTROL_ALLOW_HEADERS, ACCESS_CONTROL_ALLOW_METHODS, ACCESS_CONTROL_ALLOW_ORIGIN,
@@ -27,7 +27,7 @@ const FORM_POLICY: &str =
     "default-src 'none'; style-src 'unsafe-inline'; img-src 'self'; form-action 'self'; base-uri 'none'; frame-ancestors 'none'";
 
 /// When a client may ask again where a server is busy or doesn't answer, in seconds: as long as a server that failed is left out.
-const RETRY_SECONDS: u64 = LEFT_OUT / 1000;
+const RETRY_SECONDS: u64 = LEFT_OUT_MILLIS / 1000;
 
 /// Adds a field whose value is made here.
 fn put_text(

@@ -138,22 +138,22 @@ impl Resolver for Server {
 /// Who carries out orders: all servers, of which those of an order's prefix are asked in turn, the generator that draws suffixes, and the handles of a copy
 /// of the table, where there is one.
 #[derive(Drop)]
-pub struct OrderCarrier {
+pub struct ChangeExecutor {
     servers: Vec<Server>,
     rng: StdRng,
     copied: Option<Arc<CopiedHandles>>,
     turn: Vec<usize>,
 }
 
-impl OrderCarrier {
+impl ChangeExecutor {
     /// An asker of these servers, which it knows by their places.
     pub fn new(
         servers: Vec<Server>,
         rng: StdRng,
         copied: Option<Arc<CopiedHandles>>,
         turn: Vec<usize>,
-    ) -> OrderCarrier {
-        OrderCarrier {
+    ) -> ChangeExecutor {
+        ChangeExecutor {
             servers,
             rng,
             copied,
@@ -182,16 +182,16 @@ impl OrderCarrier {
 /// A service of which the next order's requests go to servers in turn.
 pub trait ChangeServers: ChangeServer {
     /// The next requests go to the servers at these places.
-    fn turn_to(&mut self, turn: Vec<usize>);
+    fn set_servers(&mut self, turn: Vec<usize>);
 }
 
-impl ChangeServers for OrderCarrier {
-    fn turn_to(&mut self, turn: Vec<usize>) {
+impl ChangeServers for ChangeExecutor {
+    fn set_servers(&mut self, turn: Vec<usize>) {
         self.turn = turn;
     }
 }
 
-impl ChangeServer for OrderCarrier {
+impl ChangeServer for ChangeExecutor {
     ghost use Rattle.std.specs.Prelude.{false, []};
 
     ghost is_observed = { false };

@@ -1,11 +1,13 @@
 //! Where requests come in.
 
-use crate::answering::{Answering, RequestContext, ResponseContext};
-use crate::change_requests::{BODY_MOST, BODY_SECONDS, ChangeQueue, Gathering, Progress, Purpose};
-use crate::log::Open;
-use crate::redirect_cache::KeptRedirect;
+use crate::change_requests::{
+    BODY_MOST, BODY_SECONDS, BodyCollector, ChangeQueue, Progress, Purpose,
+};
+use crate::log::PendingEntry;
+use crate::redirect_cache::CachedRedirect;
+use crate::response_future::{RequestContext, ResponseContext, ResponseFuture};
 use crate::shared::Shared;
-use crate::text::{OwnText, TextKind};
+use crate::text::{ProxyText, TextKind};
 use bytes::Bytes;
 use hdl_forms::{
     FormPlace, LIST_ADDRESS, ListRequest, Offer, Sender, form_at, form_question, list_at,
@@ -42,7 +44,7 @@ enum Start<R> {
 }
 
 /// The field by which a browser says whether a page of the same site sent a request (Fetch Metadata).
-const SITE: &str = "sec-fetch-site";
+const FETCH_SITE: &str = "sec-fetch-site";
 
 /// What a request says in its first line.
 fn first_line<B>(req: &Request<B>) -> SentRequest<'_> {
@@ -73,7 +75,7 @@ fn sent_by<B>(req: &Request<B>) -> SentRequest<'_> {
 /// What a request says of the page that sent it.
 fn sender_of<B>(req: &Request<B>) -> Sender<'_> {
     Sender {
-        site: field(req, SITE),
+        site: field(req, FETCH_SITE),
         origin: field(req, ORIGIN),
         host: field(req, HOST),
     }
@@ -113,9 +115,9 @@ impl<R: Wait + Clock + Copy + Drop> ProxyService<R> {
     }
 
     /// A visit begins. None where it can't be counted.
-    fn entry<B>(&self, req: &Request<B>) -> Option<Open<R>> {
+    fn entry<B>(&self, req: &Request<B>) -> Option<PendingEntry<R>> {
         let shared = Arc::try_clone(&self.shared).ok()?;
-        Some(Open::new(shared, req.method().as_str(), req.uri().path()))
+        Some(PendingEntry::new(shared, req.method().as_str(), req.uri().path()))
     }
 
     /// What becomes of a request that comes without a key.
@@ -241,27 +243,27 @@ impl<R: Wait + Clock + Copy + Drop> ProxyService<R> {
     }
 
     /// The redirect that is kept for a request, if one is. No path under `/api/` has one, so a key that came along says nothing.
-    fn way<B>(&self, req: &Request<B>) -> Option<Arc<KeptRedirect>> {
-        self.shared.way(plain_path(first_line(req))?)
+    fn redirect<B>(&self, req: &Request<B>) -> Option<Arc<CachedRedirect>> {
+        self.shared.redirect(plain_path(first_line(req))?)
     }
 
     /// The page of the proxy itself, if one is asked for.
-    fn own_text(&self, sent: SentRequest<'_>) -> Result<Option<OwnText>, AllocError> {
+    fn proxy_text(&self, sent: SentRequest<'_>) -> Result<Option<ProxyText>, AllocError> {
         if !matches!(sent.method, "GET" | "HEAD") {
             return Ok(None);
         }
         match sent.path {
-            "/metrics" => Ok(Some(OwnText {
+            "/metrics" => Ok(Some(ProxyText {
                 status: 200,
                 kind: TextKind::Metrics,
                 text: self.shared.metrics()?,
             })),
-            "/health" if self.shared.is_fit() => {
-                Ok(Some(OwnText::of_words(self.alloc, 200, "ok\n")?))
+            "/health" if self.shared.is_healthy() => {
+                Ok(Some(ProxyText::of_words(self.alloc, 200, "ok\n")?))
             }
             "/health" => {
                 let words = "every server is left out after a failure\n";
-                Ok(Some(OwnText::of_words(self.alloc, 503, words)?))
+                Ok(Some(ProxyText::of_words(self.alloc, 503, words)?))
             }
             _ => Ok(None),
         }
@@ -270,7 +272,7 @@ impl<R: Wait + Clock + Copy + Drop> ProxyService<R> {
     /// What a request is, by its head.
     fn start<B>(&self, req: &Request<B>) -> Result<Start<R>, AllocError> {
         let sent = sent_by(req);
-        if let Some(text) = self.own_text(sent)? {
+        if let Some(text) = self.proxy_text(sent)? {
             return Ok(Start::Progress(Progress::Text(text)));
         }
         if let Some(request) = self.list_of(sent)? {
@@ -291,20 +293,28 @@ impl<R: Wait + Clock + Copy + Drop, I: Drop> Service<Request<Incoming<I>>> for P
 
     type Error = AllocError;
 
-    type Future = Answering<R, LimitedBody<I>>;
+    type Future = ResponseFuture<R, LimitedBody<I>>;
 
-    fn call(&self, req: Request<Incoming<I>>) -> Answering<R, LimitedBody<I>> {
+    fn call(&self, req: Request<Incoming<I>>) -> ResponseFuture<R, LimitedBody<I>> {
         let entry = self.entry(&req);
-        if let Some(way) = self.way(&req) {
+        if let Some(redirect) = self.redirect(&req) {
             let request_context = RequestContext { entry, seen: None };
-            return Answering::next(self.alloc, request_context, Progress::Redirected(way));
+            return ResponseFuture::next(
+                self.alloc,
+                request_context,
+                Progress::Redirected(redirect),
+            );
         }
         let seen = self.read_fields(&req).ok();
         let request_context = RequestContext { entry, seen };
         let (purpose, change_queue) = match self.start(&req) {
             Ok(Start::Body(purpose, change_queue)) => (purpose, change_queue),
-            Ok(Start::Progress(turn)) => return Answering::next(self.alloc, request_context, turn),
-            Err(refused) => return Answering::next(
+            Ok(Start::Progress(turn)) => return ResponseFuture::next(
+                self.alloc,
+                request_context,
+                turn,
+            ),
+            Err(refused) => return ResponseFuture::next(
                 self.alloc,
                 request_context,
                 Progress::Answered(Err(refused)),
@@ -313,16 +323,16 @@ impl<R: Wait + Clock + Copy + Drop, I: Drop> Service<Request<Incoming<I>>> for P
         let body = Limited::new(req.into_body(), BODY_MOST).collect(self.alloc);
         let limit = Duration::from_secs(BODY_SECONDS);
         match self.timers.timeout(&self.rt, limit, body) {
-            Ok(body) => Answering::gathering(
+            Ok(body) => ResponseFuture::after_body(
                 self.alloc,
                 request_context,
-                Gathering {
+                BodyCollector {
                     change_queue,
                     purpose,
                     body,
                 },
             ),
-            Err(_) => Answering::next(
+            Err(_) => ResponseFuture::next(
                 self.alloc,
                 request_context,
                 Progress::Answered(Err(AllocError)),

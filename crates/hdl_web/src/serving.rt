@@ -8,7 +8,7 @@ use crate::servers::{ChangeServers, Resolver};
 use crate::service::ProxyService;
 use crate::shared::Shared;
 use crate::standbys::{Notice, write_notices};
-use crate::workers::{ProxyWorkers, start_asking};
+use crate::workers::{ProxyWorkers, start_upstreams};
 use crate::write_timeout::WriteTimeout;
 use bytes::Bytes;
 use crossbeam_channel::{Receiver, Sender, unbounded};
@@ -37,7 +37,7 @@ const FIELDS_MOST: usize = 64;
 const HEAD_SECONDS: u64 = 10;
 
 /// How long no connection is taken where there is no room for another one, in milliseconds.
-const REST_MILLISECONDS: u64 = 100;
+const PAUSE_MILLIS: u64 = 100;
 
 /// The limits of connections: of a head's octets and fields, and of the time that it takes.
 pub(crate) fn with_limits<T: Timer>(mut http: Builder<T>) -> Builder<T> {
@@ -73,14 +73,14 @@ impl<R: Wait + Clock + Copy + Drop> ConnectionHandler for ConnectionFactory<R> {
         Some(LoggedConnection::new(self.http.serve_connection(socket, service), told))
     }
 
-    fn rest(&self) -> Option<Sleep> {
-        let limit = Duration::from_millis(REST_MILLISECONDS);
+    fn pause(&self) -> Option<Sleep> {
+        let limit = Duration::from_millis(PAUSE_MILLIS);
         self.timers.sleep(&self.rt, limit).ok()
     }
 }
 
 /// What all connections share, in this runtime.
-fn open_reception<R>(
+fn open_factory<R>(
     rt: &R,
     runtime: &LocalRuntime,
     shared: Arc<Shared<R>>,
@@ -122,7 +122,7 @@ where
         mut runtime,
         listener,
     } = event_loop;
-    let factory = open_reception(rt, &runtime, shared)?;
+    let factory = open_factory(rt, &runtime, shared)?;
     serve_all(
         rt,
         &mut runtime,
@@ -151,7 +151,7 @@ where
     }
 }
 
-fn say_addresses(output: &mut impl Write, addresses: &[SocketAddr]) -> io::Result<()> {
+fn report_addresses(output: &mut impl Write, addresses: &[SocketAddr]) -> io::Result<()> {
     for address in addresses {
         writeln!(output, "http://{address}/")?;
     }
@@ -219,8 +219,8 @@ where
     let Listening { addresses, loops } = listening;
     let entries = start_log(rt, log)?;
     let (notices, come) = unbounded(rt.alloc())?;
-    let shared = start_asking(rt, workers_of_all, entries, notices)?;
+    let shared = start_upstreams(rt, workers_of_all, entries, notices)?;
     start_notices(rt, &shared, come)?;
-    say_addresses(output, &addresses)?;
+    report_addresses(output, &addresses)?;
     serve_loops(rt, loops, shared)
 }

@@ -1,12 +1,12 @@
 //! What all share: the servers, who waits for each, and how each stands.
 
-use crate::asks::{AnswerResult, Ask};
 use crate::change_requests::Progress;
 use crate::lifetime::lifetime;
 use crate::log::AccessLogEntry;
 use crate::metrics::Counts;
 use crate::owners::PrefixOwners;
-use crate::redirect_cache::{KeptAnswers, KeptRedirect};
+use crate::pending_question::{AnswerResult, PendingQuestion};
+use crate::redirect_cache::{AnswerCache, CachedRedirect};
 use crate::servers::Resolver;
 use crate::standbys::Standbys;
 use crate::worker::ChangeJob;
@@ -18,7 +18,9 @@ use hdl_forms::TokenKey;
 use hdl_msg::ResponseCode;
 use hdl_name::Name;
 use hdl_proxy::{Answer, HOPS_MOST, Next, NoAnswer, Question, Site, finish, next_step};
-use hdl_routes::{Mark, Miss, Route, Standing, places_for, places_to_change, worst};
+use hdl_routes::{
+    ChangeMark, Failure, Route, ServerHealth, servers_to_ask, servers_to_change, worst,
+};
 use std::alloc::{AllocError, Global};
 use std::sync::atomic::{AtomicU64, Ordering};
 use std::sync::{Arc, Mutex, Wait};
@@ -31,9 +33,9 @@ pub(crate) const WAITING_MOST: usize = 256;
 /// What all know of a server.
 #[derive(Drop)]
 pub(crate) struct Upstream {
-    pub(crate) asks: Sender<Ask>,
+    pub(crate) asks: Sender<PendingQuestion>,
     pub(crate) jobs: Option<Sender<ChangeJob>>,
-    pub(crate) standing: Mutex<Standing>,
+    pub(crate) health: Mutex<ServerHealth>,
     /// How many questions it was asked, and how many of these it failed to answer.
     pub(crate) asked: AtomicU64,
     pub(crate) failed: AtomicU64,
@@ -42,18 +44,18 @@ pub(crate) struct Upstream {
 impl Upstream {
     /// Notes that the server answered, and whether it had failed.
     fn note_answer<R: Wait>(&self, rt: &R) -> bool {
-        let mut standing = self.standing.lock(rt);
-        let had_failed = *standing != Standing::Fit;
-        standing.note_answer();
+        let mut health = self.health.lock(rt);
+        let had_failed = *health != ServerHealth::Fit;
+        health.note_answer();
         had_failed
     }
 
     /// Notes that the server failed at this moment, and whether it was fit before.
     fn note_failure<R: Wait>(&self, rt: &R, now: u64) -> bool {
         self.failed.fetch_add(1, Ordering::Relaxed);
-        let mut standing = self.standing.lock(rt);
-        let was_fit = *standing == Standing::Fit;
-        standing.note_failure(now);
+        let mut health = self.health.lock(rt);
+        let was_fit = *health == ServerHealth::Fit;
+        health.note_failure(now);
         was_fit
     }
 }
@@ -78,7 +80,7 @@ pub struct Shared<R> {
     /// With what the tokens of forms are made.
     pub(crate) tokens: TokenKey,
     /// What is kept, and replies for how many milliseconds at most, where any are.
-    pub(crate) cache: Option<Mutex<KeptAnswers>>,
+    pub(crate) cache: Option<Mutex<AnswerCache>>,
     pub(crate) keeps: u64,
     pub(crate) counts: Counts,
     pub(crate) standbys: Standbys,
@@ -100,13 +102,13 @@ impl<R> Shared<R> {
 
 /// A question as far as what is kept answers it: the answer, or a question that no kept reply answers, its message, and which servers to ask.
 #[derive(Drop)]
-enum Known {
+enum CacheLookup {
     Answer(Answer),
-    Open(Question, Vec<u8>, IntoIter<usize>),
+    Miss(Question, Vec<u8>, IntoIter<usize>),
 }
 
 /// Whether a reply with this code shows that its server has the prefix.
-fn is_holder(code: Option<ResponseCode>) -> bool {
+fn is_owner_code(code: Option<ResponseCode>) -> bool {
     matches!(
         code,
         Some(ResponseCode::Success | ResponseCode::HandleNotFound | ResponseCode::ValueNotFound,)
@@ -144,7 +146,7 @@ impl<R: Wait + Clock> Shared<R> {
         } else {
             None
         };
-        places_for(self.alloc, &self.routes, prefix, known)
+        servers_to_ask(self.alloc, &self.routes, prefix, known)
     }
 
     /// The reply to this message that is kept, if one is.
@@ -163,23 +165,25 @@ impl<R: Wait + Clock> Shared<R> {
     }
 
     /// The redirect that answers a request of this path alone, if one is kept.
-    pub(crate) fn way(&self, path: &str) -> Option<Arc<KeptRedirect>> {
+    pub(crate) fn redirect(&self, path: &str) -> Option<Arc<CachedRedirect>> {
         let cache = self.cache.as_ref()?;
         let now = self.now();
-        let way = cache.lock(&self.rt).way(path, now)?;
+        let redirect = cache.lock(&self.rt).redirect(path, now)?;
         self.counts.kept.fetch_add(1, Ordering::Relaxed);
-        Some(way)
+        Some(redirect)
     }
 
     /// Keeps what a request of this path alone was answered by, as its question's reply says.
-    fn keep_way(&self, path: &str, message: Vec<u8>, reply: Vec<u8>, answer: &Answer) {
+    fn keep_redirect(&self, path: &str, message: Vec<u8>, reply: Vec<u8>, answer: &Answer) {
         if let Some(cache) = &self.cache {
-            cache.lock(&self.rt).keep_way(path, message, reply, answer);
+            cache
+                .lock(&self.rt)
+                .keep_redirect(path, message, reply, answer);
         }
     }
 
     /// What is known of changes of this handle, where anything is kept.
-    fn mark(&self, name: &Name) -> Option<Mark> {
+    fn mark(&self, name: &Name) -> Option<ChangeMark> {
         let cache = self.cache.as_ref()?;
         Some(cache.lock(&self.rt).kept.mark(name.canon()))
     }
@@ -192,7 +196,7 @@ impl<R: Wait + Clock> Shared<R> {
     }
 
     /// Keeps a reply, for as long as it may be kept. The mark was there before it was asked for.
-    fn keep(&self, message: &[u8], reply: &Reply, mark: Option<Mark>) {
+    fn keep(&self, message: &[u8], reply: &Reply, mark: Option<ChangeMark>) {
         let (Some(cache), Some(mark)) = (&self.cache, mark) else {
             return;
         };
@@ -208,27 +212,27 @@ impl<R: Wait + Clock> Shared<R> {
     }
 
     /// A question as far as what is kept answers it, and the handles that its aliases name. `path` is that of its request, where nothing else is asked by it.
-    fn find_known(&self, question: Question, path: Option<&str>) -> Result<Known, AllocError> {
+    fn look_up(&self, question: Question, path: Option<&str>) -> Result<CacheLookup, AllocError> {
         let mut question = question;
         let mut path = path;
         for _ in 0..=HOPS_MOST {
             // a question has no message where it is longer than a message may be, which no head of 8 KiB comes to
             let Some(message) = question.message(self.alloc)? else {
                 let answer = finish(self.alloc, &question, Err(NoAnswer::Unreachable), 0)?;
-                return Ok(Known::Answer(answer));
+                return Ok(CacheLookup::Answer(answer));
             };
             let Some(reply) = self.reply_for(&question, &message) else {
                 let turn = self.turn(question.name.prefix())?.into_iter();
-                return Ok(Known::Open(question, message, turn));
+                return Ok(CacheLookup::Miss(question, message, turn));
             };
             match next_step(self.alloc, question, Ok(&reply), self.chance())? {
                 Next::Answer(answer) => {
                     let answer = self.site.bound(answer);
                     self.counts.kept.fetch_add(1, Ordering::Relaxed);
                     if let Some(path) = path {
-                        self.keep_way(path, message, reply, &answer);
+                        self.keep_redirect(path, message, reply, &answer);
                     }
-                    return Ok(Known::Answer(answer));
+                    return Ok(CacheLookup::Answer(answer));
                 }
                 Next::Ask(next) => {
                     question = next;
@@ -247,9 +251,9 @@ impl<R: Wait + Clock> Shared<R> {
         question: Question,
         path: Option<&str>,
     ) -> Result<Progress, AllocError> {
-        match self.find_known(question, path)? {
-            Known::Answer(answer) => Ok(Progress::Answered(Ok(answer))),
-            Known::Open(question, message, turn) => {
+        match self.look_up(question, path)? {
+            CacheLookup::Answer(answer) => Ok(Progress::Answered(Ok(answer))),
+            CacheLookup::Miss(question, message, turn) => {
                 let (answer, from) = oneshot::channel(self.alloc)?;
                 self.send(question, message, turn, None, answer);
                 Ok(Progress::Awaited(from))
@@ -282,12 +286,12 @@ impl<R: Wait + Clock> Shared<R> {
         token: Option<Vec<u8>>,
         answer: oneshot::Sender<AnswerResult>,
     ) {
-        self.forward(Ask {
+        self.forward(PendingQuestion {
             alloc: self.alloc,
             question,
             message,
             turn,
-            missed: Miss::Elsewhere,
+            failure: Failure::Elsewhere,
             since: 0,
             token,
             answer,
@@ -296,35 +300,35 @@ impl<R: Wait + Clock> Shared<R> {
 
     /// Goes on with the question that an alias led to.
     fn resume(&self, question: Question, answer: oneshot::Sender<AnswerResult>) {
-        match self.find_known(question, None) {
-            Ok(Known::Open(question, message, turn)) => {
+        match self.look_up(question, None) {
+            Ok(CacheLookup::Miss(question, message, turn)) => {
                 self.send(question, message, turn, None, answer);
             }
-            Ok(Known::Answer(made)) => drop(answer.send(Ok(made))),
+            Ok(CacheLookup::Answer(made)) => drop(answer.send(Ok(made))),
             Err(refused) => drop(answer.send(Err(refused))),
         }
     }
 
     /// Why the server at this place isn't to be asked, if it isn't.
-    fn obstacle(&self, upstream: &Upstream, now: u64) -> Option<Miss> {
-        if upstream.standing.lock(&self.rt).is_left_out(now) {
-            Some(Miss::Unreachable)
+    fn obstacle(&self, upstream: &Upstream, now: u64) -> Option<Failure> {
+        if upstream.health.lock(&self.rt).is_left_out(now) {
+            Some(Failure::Unreachable)
         } else if upstream.asks.len() >= WAITING_MOST {
-            Some(Miss::Crowded)
+            Some(Failure::Crowded)
         } else {
             None
         }
     }
 
     /// The next server that is to be asked, if there is one; why those before it aren't is noted.
-    fn next_post(&self, ask: &mut Ask) -> Option<&Upstream> {
-        let Ask { turn, missed, .. } = ask;
+    fn next_upstream(&self, ask: &mut PendingQuestion) -> Option<&Upstream> {
+        let PendingQuestion { turn, failure, .. } = ask;
         for place in turn {
             let Some(upstream) = self.upstreams.get(place) else {
                 continue;
             };
             match self.obstacle(upstream, ask.since) {
-                Some(miss) => *missed = worst(*missed, miss),
+                Some(reason) => *failure = worst(*failure, reason),
                 None => return Some(upstream),
             }
         }
@@ -332,9 +336,9 @@ impl<R: Wait + Clock> Shared<R> {
     }
 
     /// Hands a question to the next server that is to be asked, or ends it where there is none.
-    pub(crate) fn forward(&self, mut ask: Ask) {
+    pub(crate) fn forward(&self, mut ask: PendingQuestion) {
         ask.since = self.now();
-        match self.next_post(&mut ask) {
+        match self.next_upstream(&mut ask) {
             Some(upstream) => {
                 let _ = upstream.asks.send(&self.rt, ask);
             }
@@ -343,29 +347,35 @@ impl<R: Wait + Clock> Shared<R> {
     }
 
     /// Whether a question that waited may be asked now at the server of this post; why not is noted.
-    fn admits(&self, upstream: &Upstream, ask: &mut Ask) -> bool {
+    fn try_admit(&self, upstream: &Upstream, ask: &mut PendingQuestion) -> bool {
         let now = self.now();
         if now.saturating_sub(ask.since) > self.limit {
-            ask.miss(Miss::Crowded);
+            ask.note_failure(Failure::Crowded);
             return false;
         }
-        let admitted = upstream.standing.lock(&self.rt).admits(now, self.limit);
+        let admitted = upstream.health.lock(&self.rt).try_admit(now, self.limit);
         if !admitted {
-            ask.miss(Miss::Unreachable);
+            ask.note_failure(Failure::Unreachable);
         }
         admitted
     }
 
     /// Answers with the reply of the server at this place, unless that refers elsewhere.
-    fn take_reply(&self, place: usize, mut ask: Ask, reply: &Reply, mark: Option<Mark>) {
+    fn take_reply(
+        &self,
+        place: usize,
+        mut ask: PendingQuestion,
+        reply: &Reply,
+        mark: Option<ChangeMark>,
+    ) {
         let code = reply.view().code();
         if code == Some(ResponseCode::ServiceReferral) {
-            ask.miss(Miss::Elsewhere);
+            ask.note_failure(Failure::Elsewhere);
             return self.forward(ask);
         }
         if self.is_standby(place) {
             self.note_standby(place);
-        } else if self.routes.len() > 1 && is_holder(code) {
+        } else if self.routes.len() > 1 && is_owner_code(code) {
             let prefix = ask.question.name.prefix();
             self.owners.lock(&self.rt).note(prefix, place, self.now());
         }
@@ -379,11 +389,16 @@ impl<R: Wait + Clock> Shared<R> {
     }
 
     /// Asks the server at this place, and answers, or hands the question on.
-    pub(crate) fn serve<S: Resolver>(&self, place: usize, server: &mut S, mut ask: Ask) {
+    pub(crate) fn ask_upstream<S: Resolver>(
+        &self,
+        place: usize,
+        server: &mut S,
+        mut ask: PendingQuestion,
+    ) {
         let Some(upstream) = self.upstreams.get(place) else {
             return ask.end();
         };
-        if !self.admits(upstream, &mut ask) {
+        if !self.try_admit(upstream, &mut ask) {
             return self.forward(ask);
         }
         upstream.asked.fetch_add(1, Ordering::Relaxed);
@@ -398,9 +413,9 @@ impl<R: Wait + Clock> Shared<R> {
             Err(ClientFault::Memory) => ask.refuse(),
             Err(fault) => {
                 if upstream.note_failure(&self.rt, self.now()) {
-                    self.tell_failure(place, fault);
+                    self.report_failure(place, fault);
                 }
-                ask.miss(Miss::Unreachable);
+                ask.note_failure(Failure::Unreachable);
                 self.forward(ask);
             }
         }
@@ -412,7 +427,7 @@ impl<R: Wait + Clock> Shared<R> {
         &self,
         prefix: &[u8],
     ) -> Result<Option<(&Sender<ChangeJob>, Vec<usize>)>, AllocError> {
-        let turn = places_to_change(self.alloc, &self.routes, prefix)?;
+        let turn = servers_to_change(self.alloc, &self.routes, prefix)?;
         let Some(first) = turn.first() else {
             return Ok(None);
         };

@@ -14,7 +14,7 @@ const NOTICES_MOST: usize = 16;
 
 /// What is said of a server.
 #[derive(Clone, Copy)]
-enum News {
+enum UpstreamEvent {
     /// It is a standby, and answers.
     StandbyAnswers,
     /// It had failed, and answers again.
@@ -37,12 +37,14 @@ fn reason(fault: ClientFault) -> &'static str {
     }
 }
 
-impl fmt::Display for News {
+impl fmt::Display for UpstreamEvent {
     fn fmt<W: fmt::Write>(&self, f: &mut fmt::Formatter<W>) -> fmt::Result {
         match self {
-            News::StandbyAnswers => f.write_str("standby answers, since no other server did"),
-            News::ServerAnswers => f.write_str("server answers again"),
-            News::ServerFails(fault) => {
+            UpstreamEvent::StandbyAnswers => f.write_str(
+                "standby answers, since no other server did",
+            ),
+            UpstreamEvent::ServerAnswers => f.write_str("server answers again"),
+            UpstreamEvent::ServerFails(fault) => {
                 let reason = reason(*fault);
                 write!(
                     f,
@@ -57,7 +59,7 @@ impl fmt::Display for News {
 #[derive(Clone, Copy)]
 pub(crate) struct Notice {
     place: usize,
-    news: News,
+    event: UpstreamEvent,
 }
 
 /// What is known of the standbys.
@@ -82,9 +84,12 @@ impl Standbys {
 
 impl<R: Wait + Clock> Shared<R> {
     /// Sends a line on its way. One that has no room is lost.
-    fn tell(&self, place: usize, news: News) {
+    fn report(&self, place: usize, event: UpstreamEvent) {
         if self.standbys.notices.len() < NOTICES_MOST {
-            let _ = self.standbys.notices.send(&self.rt, Notice { place, news });
+            let _ = self
+                .standbys
+                .notices
+                .send(&self.rt, Notice { place, event });
         }
     }
 
@@ -100,13 +105,13 @@ impl<R: Wait + Clock> Shared<R> {
     pub(crate) fn note_standby(&self, place: usize) {
         self.standbys.answers.fetch_add(1, Ordering::Relaxed);
         if !self.standbys.are_answering.swap(true, Ordering::Relaxed) {
-            self.tell(place, News::StandbyAnswers);
+            self.report(place, UpstreamEvent::StandbyAnswers);
         }
     }
 
     /// The server at this place failed, and was fit before: tells it.
-    pub(crate) fn tell_failure(&self, place: usize, fault: ClientFault) {
-        self.tell(place, News::ServerFails(fault));
+    pub(crate) fn report_failure(&self, place: usize, fault: ClientFault) {
+        self.report(place, UpstreamEvent::ServerFails(fault));
     }
 
     /// The server at this place answered, and had failed before: tells it.
@@ -114,7 +119,7 @@ impl<R: Wait + Clock> Shared<R> {
         if !self.is_standby(place) {
             self.standbys.are_answering.store(false, Ordering::Relaxed);
         }
-        self.tell(place, News::ServerAnswers);
+        self.report(place, UpstreamEvent::ServerAnswers);
     }
 }
 
@@ -122,7 +127,7 @@ impl<R: Wait + Clock> Shared<R> {
 pub(crate) fn write_notices<R: Wait + Eprint>(shared: &Shared<R>, notices: Receiver<Notice>) {
     for notice in notices.iter(&shared.rt) {
         if let Some(route) = shared.routes.get(notice.place) {
-            let _ = eprintln!(&shared.rt; "hdl: {}: this {}", route.address, notice.news);
+            let _ = eprintln!(&shared.rt; "hdl: {}: this {}", route.address, notice.event);
         }
     }
 }

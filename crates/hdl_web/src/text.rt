@@ -28,7 +28,7 @@ impl TextKind {
 
 /// A text of the proxy's own.
 #[derive(Drop)]
-pub(crate) struct OwnText {
+pub(crate) struct ProxyText {
     pub(crate) status: u16,
     pub(crate) kind: TextKind,
     pub(crate) text: String,
@@ -45,10 +45,14 @@ fn put(
     }
 }
 
-impl OwnText {
+impl ProxyText {
     /// A text of words.
-    pub(crate) fn of_words(alloc: Global, status: u16, words: &str) -> Result<OwnText, AllocError> {
-        Ok(OwnText {
+    pub(crate) fn of_words(
+        alloc: Global,
+        status: u16,
+        words: &str,
+    ) -> Result<ProxyText, AllocError> {
+        Ok(ProxyText {
             status,
             kind: TextKind::Words,
             text: String::from_str(alloc, words)?,

@@ -1,6 +1,6 @@
 //! Threads that ask.
 
-use crate::asks::{AnswerResult, Ask};
+use crate::pending_question::{AnswerResult, PendingQuestion};
 use crate::servers::{ChangeServers, Resolver};
 use crate::shared::Shared;
 use bytes::Bytes;
@@ -58,19 +58,19 @@ fn carried<R, C: ChangeServers>(
 }
 
 /// Asks the server at this place what comes, until no sender is left.
-pub(crate) fn work<R: Wait + Clock, S: Resolver>(
+pub(crate) fn run_upstream_worker<R: Wait + Clock, S: Resolver>(
     shared: &Shared<R>,
     place: usize,
     mut server: S,
-    asks: Receiver<Ask>,
+    asks: Receiver<PendingQuestion>,
 ) {
     for ask in asks.iter(&shared.rt) {
-        shared.serve(place, &mut server, ask);
+        shared.ask_upstream(place, &mut server, ask);
     }
 }
 
 /// Carries out orders one after the other, until no sender is left. What is kept of a handle is forgotten before its change is answered.
-pub(crate) fn work_on_orders<R: Wait + Clock, C: ChangeServers>(
+pub(crate) fn run_change_worker<R: Wait + Clock, C: ChangeServers>(
     shared: &Shared<R>,
     mut change_servers: C,
     jobs: Receiver<ChangeJob>,
@@ -83,7 +83,7 @@ pub(crate) fn work_on_orders<R: Wait + Clock, C: ChangeServers>(
             form,
             answer,
         } = job;
-        change_servers.turn_to(turn);
+        change_servers.set_servers(turn);
         let made = carried(shared, &mut change_servers, &order, &body, form);
         if order.changes() {
             shared.forget(&order.name);

@@ -1,19 +1,19 @@
 //! Who asks each server.
 
-use crate::asks::Ask;
 use crate::log::AccessLogEntry;
 use crate::metrics::Counts;
 use crate::owners::PrefixOwners;
-use crate::redirect_cache::KeptAnswers;
+use crate::pending_question::PendingQuestion;
+use crate::redirect_cache::AnswerCache;
 use crate::servers::{ChangeServers, Resolver};
 use crate::shared::{Shared, Upstream};
 use crate::standbys::{Notice, Standbys};
-use crate::worker::{ChangeJob, work, work_on_orders};
+use crate::worker::{ChangeJob, run_change_worker, run_upstream_worker};
 use crossbeam_channel::{Receiver, Sender, unbounded};
 use hdl_copied::CopiedHandles;
 use hdl_forms::TokenKey;
 use hdl_proxy::Site;
-use hdl_routes::{Route, Standing};
+use hdl_routes::{Route, ServerHealth};
 use std::alloc::{AllocGlobal, Global};
 use std::hash::RandomState;
 use std::io;
@@ -52,9 +52,9 @@ pub struct ProxyWorkers<S, C> {
 
 /// The workers of an upstream, and where their questions and orders come from.
 #[derive(Drop)]
-struct Waiting<S, C> {
+struct UpstreamQueues<S, C> {
     workers: UpstreamWorkers<S, C>,
-    asks: Receiver<Ask>,
+    asks: Receiver<PendingQuestion>,
     jobs: Receiver<ChangeJob>,
 }
 
@@ -63,36 +63,36 @@ fn upstream_of<S: Drop, C: Drop>(
     alloc: Global,
     workers: UpstreamWorkers<S, C>,
     writes: bool,
-) -> io::Result<(Upstream, Waiting<S, C>)> {
+) -> io::Result<(Upstream, UpstreamQueues<S, C>)> {
     let (asks, asked) = unbounded(alloc)?;
     let (jobs, given) = unbounded(alloc)?;
     let upstream = Upstream {
         asks,
         jobs: if writes { Some(jobs) } else { None },
-        standing: Mutex::new(Standing::Fit),
+        health: Mutex::new(ServerHealth::Fit),
         asked: AtomicU64::new(0),
         failed: AtomicU64::new(0),
     };
-    let waiting = Waiting {
+    let queues = UpstreamQueues {
         workers,
         asks: asked,
         jobs: given,
     };
-    Ok((upstream, waiting))
+    Ok((upstream, queues))
 }
 
 /// The upstreams, and their workers, in their places.
-fn all_posted<S: Drop, C: Drop>(
+fn all_upstreams<S: Drop, C: Drop>(
     alloc: Global,
     all_workers: Vec<UpstreamWorkers<S, C>>,
     writes: bool,
-) -> io::Result<(Vec<Upstream>, Vec<Waiting<S, C>>)> {
+) -> io::Result<(Vec<Upstream>, Vec<UpstreamQueues<S, C>>)> {
     let mut upstreams = Vec::new(alloc);
     let mut all = Vec::new(alloc);
     for workers in all_workers {
-        let (upstream, waiting) = upstream_of(alloc, workers, writes)?;
+        let (upstream, queues) = upstream_of(alloc, workers, writes)?;
         upstreams.push(upstream)?;
-        all.push(waiting)?;
+        all.push(queues)?;
     }
     Ok((upstreams, all))
 }
@@ -102,18 +102,18 @@ fn start_upstream_workers<R, S, C>(
     rt: &R,
     shared: &Arc<Shared<R>>,
     place: usize,
-    waiting: Waiting<S, C>,
+    queues: UpstreamQueues<S, C>,
 ) -> io::Result<()>
 where
     R: Wait + Threads + Clock + AllocGlobal + Copy + Send + Sync + Drop + 'static,
     S: Resolver + Send + 'static,
     C: ChangeServers + Send + 'static,
 {
-    let Waiting {
+    let UpstreamQueues {
         workers,
         asks,
         jobs,
-    } = waiting;
+    } = queues;
     let UpstreamWorkers {
         askers,
         change_servers,
@@ -121,11 +121,11 @@ where
     for asker in askers {
         let theirs = Arc::try_clone(shared)?;
         let asks = asks.clone()?;
-        drop(thread::spawn(rt, move || work(&theirs, place, asker, asks))?);
+        drop(thread::spawn(rt, move || run_upstream_worker(&theirs, place, asker, asks))?);
     }
     if let Some(change_servers) = change_servers {
         let theirs = Arc::try_clone(shared)?;
-        drop(thread::spawn(rt, move || work_on_orders(&theirs, change_servers, jobs))?);
+        drop(thread::spawn(rt, move || run_change_worker(&theirs, change_servers, jobs))?);
     }
     Ok(())
 }
@@ -134,11 +134,11 @@ where
 fn cache<R: RandomSource + AllocGlobal>(
     rt: &R,
     keeps: u64,
-) -> io::Result<Option<Mutex<KeptAnswers>>> {
+) -> io::Result<Option<Mutex<AnswerCache>>> {
     if keeps == 0 {
         return Ok(None);
     }
-    let cache = KeptAnswers::new(rt.alloc(), RandomState::new(rt)?, RandomState::new(rt)?)?;
+    let cache = AnswerCache::new(rt.alloc(), RandomState::new(rt)?, RandomState::new(rt)?)?;
     Ok(Some(Mutex::new(cache)))
 }
 
@@ -158,7 +158,7 @@ fn token_key<R: RandomSource>(rt: &R) -> io::Result<TokenKey> {
 }
 
 /// The board with these posts; lines of visits go to `visits`, those about servers to `notices`.
-fn board_of<R>(
+fn shared_of<R>(
     rt: &R,
     config: Config,
     upstreams: Vec<Upstream>,
@@ -196,21 +196,21 @@ where
 fn start_all_workers<R, S, C>(
     rt: &R,
     shared: &Arc<Shared<R>>,
-    all_workers: Vec<Waiting<S, C>>,
+    all_workers: Vec<UpstreamQueues<S, C>>,
 ) -> io::Result<()>
 where
     R: Wait + Threads + Clock + AllocGlobal + Copy + Send + Sync + Drop + 'static,
     S: Resolver + Send + 'static,
     C: ChangeServers + Send + 'static,
 {
-    for (place, waiting) in all_workers.into_iter().enumerate() {
-        start_upstream_workers(rt, shared, place, waiting)?;
+    for (place, queues) in all_workers.into_iter().enumerate() {
+        start_upstream_workers(rt, shared, place, queues)?;
     }
     Ok(())
 }
 
 /// Starts a thread for each who asks, and gives where questions and orders go; lines of visits go to `visits`, those about servers to `notices`.
-pub(crate) fn start_asking<R, S, C>(
+pub(crate) fn start_upstreams<R, S, C>(
     rt: &R,
     workers_of_all: ProxyWorkers<S, C>,
     entries: Option<Sender<AccessLogEntry>>,
@@ -225,8 +225,8 @@ where
         config,
         all_workers,
     } = workers_of_all;
-    let (upstreams, all_workers) = all_posted(rt.alloc(), all_workers, config.writes)?;
-    let shared = board_of(rt, config, upstreams, entries, notices)?;
+    let (upstreams, all_workers) = all_upstreams(rt.alloc(), all_workers, config.writes)?;
+    let shared = shared_of(rt, config, upstreams, entries, notices)?;
     start_all_workers(rt, &shared, all_workers)?;
     Ok(shared)
 }

@@ -1,18 +1,18 @@
 //! An import, asked of a server.
 
 use crate::advice::{UNSAYABLE, is_unsayable};
-use crate::batches::is_watched;
-use crate::fault::WordFault;
+use crate::batches::shows_progress;
+use crate::fault::ArgumentFault;
 use crate::imports::columns::Columns;
 use crate::imports::counts::{Counts, Refusal};
 use crate::imports::creating::{Creations, create_all};
 use crate::imports::progress::Progress;
-use crate::imports::row::DAY;
-use crate::imports::rows::{Form, HandleRows, Part};
-use crate::imports::update::Kept;
-use crate::imports::updating::{Manner, preview_part, update_part};
+use crate::imports::row::DAY_SECONDS;
+use crate::imports::rows::{HandleRows, Part, RowFormat};
+use crate::imports::update::KeptFields;
+use crate::imports::updating::{UpdateMode, preview_part, update_part};
 use crate::key::{key_of, read_key_reference};
-use crate::telling::tell_fault;
+use crate::reporting::report_fault;
 use hdl_client::{Batch, ClientFault, Key, Session, Task, Transport, connect};
 use hdl_lines::number_in;
 use hdl_value::Wire;
@@ -26,7 +26,7 @@ const AGAIN: &str =
 
 /// What is imported, and where.
 #[derive(Drop)]
-pub struct Import {
+pub struct ImportOptions {
     /// The path of a CSV file.
     pub file: String,
     /// `HOST:PORT`.
@@ -49,9 +49,9 @@ enum ImportFault {
     #[error("the file can't be read: {0}")]
     File(io::Error),
     #[error("line 1: {0}")]
-    Header(WordFault),
+    Header(ArgumentFault),
     #[error("{0}")]
-    Words(WordFault),
+    Words(ArgumentFault),
     #[error("{0}")]
     Client(ClientFault),
     #[error("the server refuses the key: check --key and its secret; later rows were not tried")]
@@ -95,7 +95,7 @@ impl From<AllocError> for ImportFault {
 }
 
 /// Says which handles of a part have a space in the name.
-fn tell_spaces(rt: &HostRuntime, part: &Part) {
+fn report_spaces(rt: &HostRuntime, part: &Part) {
     for task in &part.tasks {
         if is_unsayable(task.request.handle()) {
             let _ = println!(rt; "line {}: {}: {UNSAYABLE}", task.line, task.title);
@@ -113,7 +113,7 @@ fn next_part(rt: &HostRuntime, rows: &mut HandleRows<'_>, counts: &mut Counts) -
     let mut part = Part::new(rt.alloc());
     rows.fill(&mut part, &mut faults);
     *counts = faults.counts;
-    tell_spaces(rt, &part);
+    report_spaces(rt, &part);
     part
 }
 
@@ -123,18 +123,18 @@ fn to_create<S: Transport>(
     session: &mut Session<S>,
     part: Part,
     batch: &mut Batch,
-    manner: Option<Manner>,
+    update_mode: Option<UpdateMode>,
     counts: &mut Counts,
 ) -> Result<Vec<Task>, ClientFault> {
-    let Some(manner) = manner else {
+    let Some(update_mode) = update_mode else {
         let Part { tasks, .. } = part;
         return Ok(tasks);
     };
-    if manner.is_dry {
-        preview_part(rt, session, part, batch, manner, counts)?;
+    if update_mode.is_dry {
+        preview_part(rt, session, part, batch, update_mode, counts)?;
         return Ok(Vec::new(rt.alloc()));
     }
-    update_part(rt, session, part, batch, manner, counts)
+    update_part(rt, session, part, batch, update_mode, counts)
 }
 
 /// Asks for the next part of the file. Answers whether there was one.
@@ -143,14 +143,14 @@ fn ask_part<S: Transport>(
     session: &mut Session<S>,
     rows: &mut HandleRows<'_>,
     batch: &mut Batch,
-    manner: Option<Manner>,
+    update_mode: Option<UpdateMode>,
     counts: &mut Counts,
 ) -> Result<bool, ClientFault> {
     let part = next_part(rt, rows, counts);
     if part.tasks.is_empty() {
         return Ok(false);
     }
-    batch.tasks = to_create(rt, session, part, batch, manner, counts)?;
+    batch.tasks = to_create(rt, session, part, batch, update_mode, counts)?;
     create_all(rt, session, batch, counts)?;
     Ok(true)
 }
@@ -160,11 +160,11 @@ fn ask_parts<S: Transport>(
     session: &mut Session<S>,
     rows: &mut HandleRows<'_>,
     batch: &mut Batch,
-    manner: Option<Manner>,
+    update_mode: Option<UpdateMode>,
     counts: &mut Counts,
 ) -> Result<(), ImportFault> {
     for _ in 0..u64::MAX {
-        if !ask_part(rt, session, rows, batch, manner, counts)? {
+        if !ask_part(rt, session, rows, batch, update_mode, counts)? {
             break;
         }
         counts.progress.note(rt, rows.rows());
@@ -202,12 +202,12 @@ fn ask_all(
     server: &str,
     rows: &mut HandleRows<'_>,
     key: Key,
-    manner: Option<Manner>,
+    update_mode: Option<UpdateMode>,
     counts: &mut Counts,
 ) -> Result<(), ImportFault> {
     let mut batch = batch_of(rt.alloc(), key)?;
     let mut session = connect(rt, server)?;
-    let ended = ask_parts(rt, &mut session, rows, &mut batch, manner, counts);
+    let ended = ask_parts(rt, &mut session, rows, &mut batch, update_mode, counts);
     counts.progress.end(rt);
     ended
 }
@@ -223,16 +223,16 @@ fn read_all(rt: &HostRuntime, rows: &mut HandleRows<'_>, counts: &mut Counts) {
     }
 }
 
-fn ttl_of(import: &Import) -> Result<u32, WordFault> {
+fn ttl_of(import: &ImportOptions) -> Result<u32, ArgumentFault> {
     match &import.ttl {
-        Some(digits) => number_in(digits.as_bytes()).ok_or(WordFault::Ttl),
-        None => Ok(DAY),
+        Some(digits) => number_in(digits.as_bytes()).ok_or(ArgumentFault::Ttl),
+        None => Ok(DAY_SECONDS),
     }
 }
 
 /// How the rows of the file are read.
-fn form_of(alloc: Global, import: &Import) -> Result<Form, WordFault> {
-    Ok(Form {
+fn row_format_of(alloc: Global, import: &ImportOptions) -> Result<RowFormat, ArgumentFault> {
+    Ok(RowFormat {
         wire: import.wire,
         key: read_key_reference(alloc, &import.key)?,
         ttl: ttl_of(import)?,
@@ -241,12 +241,12 @@ fn form_of(alloc: Global, import: &Import) -> Result<Form, WordFault> {
 }
 
 /// How handles that are there are updated: what the file says nothing of stays.
-fn manner_of(import: &Import, columns: &Columns) -> Option<Manner> {
+fn update_mode_of(import: &ImportOptions, columns: &Columns) -> Option<UpdateMode> {
     if !import.is_update {
         return None;
     }
-    Some(Manner {
-        kept: Kept {
+    Some(UpdateMode {
+        kept: KeptFields {
             ttl: columns.ttl.is_none() && import.ttl.is_none(),
             permissions: columns.permissions.is_none(),
         },
@@ -255,16 +255,20 @@ fn manner_of(import: &Import, columns: &Columns) -> Option<Manner> {
     })
 }
 
-fn import_rows(rt: &HostRuntime, import: &Import, counts: &mut Counts) -> Result<(), ImportFault> {
+fn import_rows(
+    rt: &HostRuntime,
+    import: &ImportOptions,
+    counts: &mut Counts,
+) -> Result<(), ImportFault> {
     let text = match fs::read(rt, import.file.as_str()) {
         Ok(text) => text,
         Err(error) => return Err(ImportFault::File(error)),
     };
-    let form = match form_of(rt.alloc(), import) {
-        Ok(form) => form,
+    let row_format = match row_format_of(rt.alloc(), import) {
+        Ok(row_format) => row_format,
         Err(fault) => return Err(ImportFault::Words(fault)),
     };
-    let mut rows = match HandleRows::new(rt.alloc(), form, &text) {
+    let mut rows = match HandleRows::new(rt.alloc(), row_format, &text) {
         Ok(rows) => rows,
         Err(fault) => return Err(ImportFault::Header(fault)),
     };
@@ -276,12 +280,12 @@ fn import_rows(rt: &HostRuntime, import: &Import, counts: &mut Counts) -> Result
         Ok(key) => key,
         Err(fault) => return Err(ImportFault::Words(fault)),
     };
-    let manner = manner_of(import, &rows.columns);
-    counts.progress = Progress::new(rt, rows_in(&text), is_watched(rt));
-    ask_all(rt, &import.server, &mut rows, key, manner, counts)
+    let update_mode = update_mode_of(import, &rows.columns);
+    counts.progress = Progress::new(rt, rows_in(&text), shows_progress(rt));
+    ask_all(rt, &import.server, &mut rows, key, update_mode, counts)
 }
 
-fn print_counts(rt: &HostRuntime, import: &Import, counts: &Counts) {
+fn print_counts(rt: &HostRuntime, import: &ImportOptions, counts: &Counts) {
     let Counts {
         created,
         changed,
@@ -304,10 +308,10 @@ fn print_counts(rt: &HostRuntime, import: &Import, counts: &Counts) {
 }
 
 /// Says on standard error why an import stopped.
-fn tell(rt: &HostRuntime, import: &Import, fault: &ImportFault) {
+fn report(rt: &HostRuntime, import: &ImportOptions, fault: &ImportFault) {
     let _ = match fault {
         ImportFault::Client(fault) => {
-            tell_fault(rt, &import.server, *fault);
+            report_fault(rt, &import.server, *fault);
             eprintln!(rt; "{AGAIN}")
         }
         ImportFault::File(_) if import.file.as_str() == "-" => {
@@ -325,7 +329,7 @@ fn tell(rt: &HostRuntime, import: &Import, fault: &ImportFault) {
 /// aren't, brings the values of its rows to one that is, and prints what it changes. Answers the exit status: 0 where all handles are
 /// as the rows say, 1 where some aren't, or the key or every change is refused, or the server stays busy, 2 where nothing was sent, and 3 where the connection failed. A dry import tells
 /// what is wrong with the file alone, and a dry update what it would change.
-pub fn import_file(rt: &HostRuntime, import: &Import) -> u8 {
+pub fn import_file(rt: &HostRuntime, import: &ImportOptions) -> u8 {
     let mut counts = Counts::new(Progress::new(rt, 0, false));
     let ended = import_rows(rt, import, &mut counts);
     let status = match &ended {
@@ -336,7 +340,7 @@ pub fn import_file(rt: &HostRuntime, import: &Import) -> u8 {
         print_counts(rt, import, &counts);
     }
     if let Err(fault) = ended {
-        tell(rt, import, &fault);
+        report(rt, import, &fault);
     }
     status
 }

@@ -5,7 +5,7 @@ ghost use Rattle.std.specs.Char.{to_ascii_lowercase};
 ghost use Rattle.csv.specs.Records.{fields_of};
 ghost use Rattle.hdl_commands.specs.Rows.{fields_in, name_at, AreNamed};
 
-use crate::fault::WordFault;
+use crate::fault::ArgumentFault;
 use csv::{ByteRecord, ReaderBuilder};
 use std::alloc::{AllocError, Global};
 
@@ -74,30 +74,30 @@ fn has_near(names: &ByteRecord, name: &str) -> bool {
 }
 
 /// The column of this name, if there is one. One with spaces around its name is refused, since it would be passed over.
-fn column(names: &ByteRecord, name: &'static str) -> Result<Option<usize>, WordFault>
+fn column(names: &ByteRecord, name: &'static str) -> Result<Option<usize>, ArgumentFault>
     ensures { IfOk result (λ found. IfSome found (λ place. name_at (fields_of names.now) place ≡ Some (map to_ascii_lowercase name.now))) }
 {
     let Some(place) = column_from(names, name, 0) else {
         return if has_near(names, name) {
-            Err(WordFault::ColumnSpace(name))
+            Err(ArgumentFault::ColumnSpace(name))
         } else {
             Ok(None)
         };
     };
     if column_from(names, name, place.saturating_add(1)).is_some() {
-        return Err(WordFault::ColumnTwice(name));
+        return Err(ArgumentFault::ColumnTwice(name));
     }
     Ok(Some(place))
 }
 
-fn needed_column(names: &ByteRecord, name: &'static str) -> Result<usize, WordFault>
+fn needed_column(names: &ByteRecord, name: &'static str) -> Result<usize, ArgumentFault>
     ensures { IfOk result (λ place. name_at (fields_of names.now) place ≡ Some (map to_ascii_lowercase name.now)) }
 {
-    column(names, name)?.ok_or(WordFault::Column(name))
+    column(names, name)?.ok_or(ArgumentFault::Column(name))
 }
 
 /// The columns that a header names; the columns of other names are passed over.
-pub(crate) fn columns_of(names: &ByteRecord) -> Result<Columns, WordFault>
+pub(crate) fn columns_of(names: &ByteRecord) -> Result<Columns, ArgumentFault>
     ensures { IfOk result (AreNamed (fields_of names.now)) }
 {
     Ok(Columns {

@@ -5,7 +5,7 @@ ghost use Rattle.hdl_msg.specs.declared.codes.ResponseCode.TheVariants.{Success}
 ghost use Rattle.hdl_msg.specs.Codes.{response_number};
 ghost use Rattle.hdl_commands.specs.Ended.{line_of, found_lines, LeavesLines, AsksAgain, CreatesAll};
 
-use crate::fault::WordFault;
+use crate::fault::ArgumentFault;
 use crate::imports::counts::{Counts, print_code, print_line};
 use crate::imports::reading::question;
 use crate::imports::rows::Faults;
@@ -25,7 +25,7 @@ pub(crate) struct Creations<'r> {
 }
 
 impl Faults for Creations<'_> {
-    fn note_fault(&mut self, line: usize, handle: &[u8], fault: WordFault) {
+    fn note_fault(&mut self, line: usize, handle: &[u8], fault: ArgumentFault) {
         let alloc = self.rt.alloc();
         // without memory for it the handle is missing from the line
         let handle = printed_octets(alloc, handle).unwrap_or_else(|_| String::new(alloc));

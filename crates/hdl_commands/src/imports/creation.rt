@@ -6,8 +6,8 @@ ghost use Rattle.hdl_value.specs.Refs.{is_admin};
 ghost use Rattle.hdl_commands.specs.Rows as rows;
 ghost use Rattle.hdl_commands.specs.Rows.{AreAdministered, Creates};
 
-use crate::fault::WordFault;
-use crate::imports::row::{DAY, OPEN};
+use crate::fault::ArgumentFault;
+use crate::imports::row::{DAY_SECONDS, PUBLIC_READ_PERMISSIONS};
 use hdl_client::{RequestMessage, Task};
 use hdl_limits::{Items, NAME_MAX, Octets, WRITTEN_MAX};
 use hdl_lines::printed_octets;
@@ -17,29 +17,29 @@ use hdl_value::{HS_ADMIN, RawRef, RawRefs, Value, Wire, put_string, put_u16, put
 use std::alloc::Global;
 
 /// All that an administrator may do.
-const EVERYTHING: u16 = 0x0FFF;
+const ALL_PERMISSIONS: u16 = 0x0FFF;
 
 /// Where an administrator is added: at this index, or the first one after it that is free.
-const PLACE: u32 = 100;
+const ADMINISTRATOR_INDEX: u32 = 100;
 
 /// The data of an administrator who may do everything, by this key.
-fn administrator(alloc: Global, key: &RawRef, index: u32) -> Result<Value, WordFault>
+fn administrator(alloc: Global, key: &RawRef, index: u32) -> Result<Value, ArgumentFault>
     ensures { IfOk result (λ v. v ≡ rows.administrator key.now index) }
 {
     if key.handle.as_slice().len() > NAME_MAX {
-        return Err(WordFault::Key);
+        return Err(ArgumentFault::Key);
     }
     let mut data = Vec::new(alloc);
-    put_u16(&mut data, EVERYTHING)?;
+    put_u16(&mut data, ALL_PERMISSIONS)?;
     put_string(&mut data, key.handle.as_slice())?;
     put_u32(&mut data, key.index)?;
-    let [a, b, c, d] = DAY.to_be_bytes();
+    let [a, b, c, d] = DAY_SECONDS.to_be_bytes();
     Ok(Value {
         index,
         kind: Octets::new(Vec::from_slice(alloc, HS_ADMIN)?),
         bytes: Octets::new(data),
         ttl: [0, a, b, c, d],
-        permissions: OPEN,
+        permissions: PUBLIC_READ_PERMISSIONS,
         timestamp: 0,
         references: RawRefs::new(Vec::new(alloc)),
     })
@@ -55,7 +55,7 @@ fn has_index(values: &[Value], index: u32) -> bool
 fn free_index(values: &[Value]) -> Option<u32>
     ensures { IfSome result (λ index. All (λ v. v.index ≢ index) values.now) }
 {
-    for index in PLACE..PLACE + WRITTEN_MAX as u32 {
+    for index in ADMINISTRATOR_INDEX..ADMINISTRATOR_INDEX + WRITTEN_MAX as u32 {
         if !has_index(values, index) {
             return Some(index);
         }
@@ -83,7 +83,7 @@ fn with_administrator(
     alloc: Global,
     key: &RawRef,
     rows: Vec<Value>,
-) -> Result<Vec<Value>, WordFault>
+) -> Result<Vec<Value>, ArgumentFault>
     ensures { IfOk result (λ values. AreAdministered key.now rows.items values.items) }
 {
     let mut values = rows;
@@ -91,19 +91,19 @@ fn with_administrator(
         return Ok(values);
     }
     let Some(index) = free_index(&values) else {
-        return Err(WordFault::TooMany);
+        return Err(ArgumentFault::TooMany);
     };
     values.push(administrator(alloc, key, index)?)?;
     Ok(values)
 }
 
 /// Whether the service takes a handle with these values, and why not.
-fn check(values: &[Value]) -> Result<(), WordFault> {
+fn check(values: &[Value]) -> Result<(), ArgumentFault> {
     if values.len() > WRITTEN_MAX {
-        return Err(WordFault::TooMany);
+        return Err(ArgumentFault::TooMany);
     }
     if has_twins(values) {
-        return Err(WordFault::IndexTwice);
+        return Err(ArgumentFault::IndexTwice);
     }
     Ok(())
 }
@@ -115,7 +115,7 @@ fn creation(
     key: &RawRef,
     handle: &[u8],
     rows: Vec<Value>,
-) -> Result<RequestMessage, WordFault>
+) -> Result<RequestMessage, ArgumentFault>
     ensures creates { IfOk result (λ message. Creates wire key.now handle.now rows.items message.octets) }
     ensures layout { IfOk result (λ message. message.wire ≡ wire) }
 {
@@ -136,12 +136,12 @@ pub(crate) fn creation_task(
     line: usize,
     handle: &[u8],
     rows: Vec<Value>,
-) -> Result<Task, WordFault>
+) -> Result<Task, ArgumentFault>
     ensures creates { IfOk result (λ task. Creates wire key.now handle.now rows.items task.request.octets) }
     ensures layout { IfOk result (λ task. task.request.wire ≡ wire) }
 {
     if handle.is_empty() {
-        return Err(WordFault::NoHandle);
+        return Err(ArgumentFault::NoHandle);
     }
     Name::read(alloc, handle)?;
     let message = creation(alloc, wire, key, handle, rows)?;

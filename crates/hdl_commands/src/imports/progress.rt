@@ -15,25 +15,25 @@ pub(crate) struct Progress {
     all: usize,
     /// How many are done.
     done: usize,
-    is_watched: bool,
+    shows_progress: bool,
     /// When it was said last, or the import began; None without a clock.
     said: Option<Instant>,
 }
 
 impl Progress {
     /// That of an import of so many rows, which begins.
-    pub fn new(rt: &HostRuntime, all: usize, is_watched: bool) -> Progress {
+    pub fn new(rt: &HostRuntime, all: usize, shows_progress: bool) -> Progress {
         Progress {
             all,
             done: 0,
-            is_watched,
+            shows_progress,
             said: Instant::now(rt).ok(),
         }
     }
 
     /// Whether it is time to say it.
     fn is_due(&mut self, rt: &HostRuntime) -> bool {
-        let pause = if self.is_watched {
+        let pause = if self.shows_progress {
             WATCHED_PAUSE
         } else {
             PAUSE
@@ -50,7 +50,7 @@ impl Progress {
 
     fn say(&self, rt: &HostRuntime) {
         let (done, all) = (self.done, self.all);
-        let _ = if self.is_watched {
+        let _ = if self.shows_progress {
             eprint!(rt; "\r{done} of {all} rows")
         } else {
             eprintln!(rt; "hdl: {done} of {all} rows")
@@ -67,7 +67,7 @@ impl Progress {
 
     /// Says it for the last time where a terminal shows it.
     pub fn end(&self, rt: &HostRuntime) {
-        if self.is_watched {
+        if self.shows_progress {
             self.say(rt);
             let _ = eprintln!(rt);
         }

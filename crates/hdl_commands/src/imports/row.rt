@@ -13,10 +13,10 @@ use hdl_value::Value;
 use std::alloc::Global;
 
 /// The permissions 1110: administrators read and write, everyone reads.
-pub(crate) const OPEN: u8 = 14;
+pub(crate) const PUBLIC_READ_PERMISSIONS: u8 = 14;
 
 /// A day, in seconds.
-pub(crate) const DAY: u32 = 86_400;
+pub(crate) const DAY_SECONDS: u32 = 86_400;
 
 fn number_at(fields: &ByteRecord, column: usize) -> Option<u32>
     ensures { result ≡ option_and_then line.number_in (field_at (fields_of fields.now) column) }
@@ -56,7 +56,7 @@ fn permissions_of(column: Option<usize>, fields: &ByteRecord) -> Option<u8>
     ensures { result ≡ rows.permissions_of column (fields_of fields.now) }
 {
     match column {
-        None => Some(OPEN),
+        None => Some(PUBLIC_READ_PERMISSIONS),
         Some(column) => permissions_in(fields.get(column)?),
     }
 }

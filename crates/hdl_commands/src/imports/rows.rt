@@ -5,7 +5,7 @@ ghost use Rattle.csv.specs.Records.{fields_of};
 ghost use Rattle.hdl_value.specs.declared.value.Value.{Value};
 ghost use Rattle.hdl_commands.specs.Rows as said;
 
-use crate::fault::WordFault;
+use crate::fault::ArgumentFault;
 use crate::imports::columns::{Columns, columns_of, fields_in, is_closed};
 use crate::imports::creation::creation_task;
 use crate::imports::row::value_in_row;
@@ -25,36 +25,36 @@ const PART: usize = 1000;
 /// Is informed of what isn't imported of a file.
 pub(crate) trait Faults {
     /// This line, a row of this handle, is at fault.
-    fn note_fault(&mut self, line: usize, handle: &[u8], fault: WordFault);
+    fn note_fault(&mut self, line: usize, handle: &[u8], fault: ArgumentFault);
 
     /// One more handle isn't created.
     fn left_out(&mut self);
 }
 
 /// What is wrong with data that is no text on one line.
-fn data_fault(data: &[u8]) -> WordFault {
+fn data_fault(data: &[u8]) -> ArgumentFault {
     match data {
-        [] => WordFault::NoData,
-        [b' ', ..] | [.., b' '] => WordFault::DataSpace,
-        _ if std::str::from_utf8(data).is_err() => WordFault::DataNotUtf8,
-        _ => WordFault::Value(LineFault::Text),
+        [] => ArgumentFault::NoData,
+        [b' ', ..] | [.., b' '] => ArgumentFault::DataSpace,
+        _ if std::str::from_utf8(data).is_err() => ArgumentFault::DataNotUtf8,
+        _ => ArgumentFault::Value(LineFault::Text),
     }
 }
 
 /// What stands between the fields of a file with this header. Spreadsheets write a semicolon if the country's decimal mark is a comma.
-fn separator_of(header: &[u8]) -> Result<u8, WordFault> {
+fn separator_of(header: &[u8]) -> Result<u8, ArgumentFault> {
     match header {
-        [0xFF, 0xFE, ..] | [0xFE, 0xFF, ..] => Err(WordFault::Utf16),
+        [0xFF, 0xFE, ..] | [0xFE, 0xFF, ..] => Err(ArgumentFault::Utf16),
         _ if header.contains(&b',') => Ok(b','),
         _ if header.contains(&b';') => Ok(b';'),
-        _ if header.contains(&b'\t') => Err(WordFault::Tabs),
+        _ if header.contains(&b'\t') => Err(ArgumentFault::Tabs),
         _ => Ok(b','),
     }
 }
 
 /// How the rows of a file are read, and what is made of them.
 #[derive(Drop)]
-pub(crate) struct Form {
+pub(crate) struct RowFormat {
     /// The layout of values in the requests.
     pub wire: Wire,
     /// The key of the administrator that a handle without one gets.
@@ -124,7 +124,7 @@ impl Entry {
         columns: &Columns,
         ttl: u32,
         fields: &ByteRecord,
-    ) -> Result<(), WordFault>
+    ) -> Result<(), ArgumentFault>
         ensures { OnOk result ((v : Value) × (self.new.values.items ≡ self.old.values.items ++ v ∷ []) × (said.value_in_row columns.now ttl self.new.rows (fields_of fields.now) ≡ Ok v)) }
     {
         self.rows = self.rows.saturating_add(1);
@@ -136,7 +136,7 @@ impl Entry {
             Err(fault) => return Err(fault.into()),
         };
         if value.is_secret_key() {
-            return Err(WordFault::KeyInFile);
+            return Err(ArgumentFault::KeyInFile);
         }
         self.values.push(value)?;
         Ok(())
@@ -147,7 +147,7 @@ impl Entry {
 #[derive(Drop)]
 pub(crate) struct HandleRows<'t> {
     alloc: Global,
-    form: Form,
+    row_format: RowFormat,
     separator: u8,
     pub columns: Columns,
     /// How many fields a row has.
@@ -176,18 +176,22 @@ fn has_return(line: &[u8]) -> bool {
 
 impl<'t> HandleRows<'t> {
     /// The rows after the header of this text.
-    pub fn new(alloc: Global, form: Form, text: &'t [u8]) -> Result<HandleRows<'t>, WordFault> {
+    pub fn new(
+        alloc: Global,
+        row_format: RowFormat,
+        text: &'t [u8],
+    ) -> Result<HandleRows<'t>, ArgumentFault> {
         let (header, rest) = line_of(text);
         let separator = separator_of(header)?;
         if has_return(header) {
-            return Err(WordFault::Return);
+            return Err(ArgumentFault::Return);
         }
         let Some(names) = fields_in(alloc, separator, header)? else {
-            return Err(WordFault::Column("handle"));
+            return Err(ArgumentFault::Column("handle"));
         };
         Ok(HandleRows {
             alloc,
-            form,
+            row_format,
             separator,
             columns: columns_of(&names)?,
             width: names.len(),
@@ -215,9 +219,9 @@ impl<'t> HandleRows<'t> {
         line: usize,
         handle: &[u8],
         values: Vec<Value>,
-    ) -> Result<(), WordFault> {
-        let Form { wire, key, .. } = &self.form;
-        let rows = if self.form.keeps_rows {
+    ) -> Result<(), ArgumentFault> {
+        let RowFormat { wire, key, .. } = &self.row_format;
+        let rows = if self.row_format.keeps_rows {
             copies(self.alloc, &values)?
         } else {
             Vec::new(self.alloc)
@@ -267,18 +271,18 @@ impl<'t> HandleRows<'t> {
         Ok(())
     }
 
-    fn push(&mut self, line: &[u8], fields: &ByteRecord) -> Result<(), WordFault> {
+    fn push(&mut self, line: &[u8], fields: &ByteRecord) -> Result<(), ArgumentFault> {
         if has_return(line) {
-            return Err(WordFault::Return);
+            return Err(ArgumentFault::Return);
         }
         if !is_closed(line) {
-            return Err(WordFault::Quote);
+            return Err(ArgumentFault::Quote);
         }
         if fields.len() != self.width {
-            return Err(WordFault::Fields);
+            return Err(ArgumentFault::Fields);
         }
         match &mut self.entry {
-            Some(entry) => entry.push_row(self.alloc, &self.columns, self.form.ttl, fields),
+            Some(entry) => entry.push_row(self.alloc, &self.columns, self.row_format.ttl, fields),
             None => Ok(()),
         }
     }
@@ -289,7 +293,7 @@ impl<'t> HandleRows<'t> {
         line: &[u8],
         part: &mut Part,
         faults: &mut F,
-    ) -> Result<(), WordFault> {
+    ) -> Result<(), ArgumentFault> {
         let Some(fields) = fields_in(self.alloc, self.separator, line)? else {
             return Ok(());
         };
@@ -305,7 +309,7 @@ impl<'t> HandleRows<'t> {
     }
 
     /// Tells what is wrong with the last line, and marks the handle that was begun, if one was: it isn't created.
-    fn spoil<F: Faults>(&mut self, faults: &mut F, fault: WordFault) {
+    fn spoil<F: Faults>(&mut self, faults: &mut F, fault: ArgumentFault) {
         match &mut self.entry {
             Some(entry) => {
                 entry.is_faulty = true;

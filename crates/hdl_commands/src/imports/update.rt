@@ -8,7 +8,7 @@ use std::alloc::{AllocError, Global};
 
 /// What of a value that is there stays, since no column of the file says it.
 #[derive(Clone, Copy)]
-pub struct Kept {
+pub struct KeptFields {
     pub ttl: bool,
     pub permissions: bool,
 }
@@ -28,7 +28,7 @@ pub(crate) fn value_at(index: u32, values: &[Value]) -> Option<&Value>
 }
 
 /// A wanted value as it is meant, where this one is there at its index.
-fn with_kept(kept: Kept, old: &Value, wanted: Value) -> Value
+fn with_kept(kept: KeptFields, old: &Value, wanted: Value) -> Value
     ensures { result ≡ said.meant_by kept (Some old.now) wanted }
 {
     let Value {
@@ -56,7 +56,12 @@ fn with_kept(kept: Kept, old: &Value, wanted: Value) -> Value
 }
 
 /// A value as it is meant beside those that are there.
-fn meant(alloc: Global, kept: Kept, there: &[Value], wanted: &Value) -> Result<Value, AllocError>
+fn meant(
+    alloc: Global,
+    kept: KeptFields,
+    there: &[Value],
+    wanted: &Value,
+) -> Result<Value, AllocError>
     ensures { IfOk result (λ v. v ≡ said.meant kept there.now wanted.now) }
 {
     let value = wanted.copy(alloc)?;
@@ -69,7 +74,7 @@ fn meant(alloc: Global, kept: Kept, there: &[Value], wanted: &Value) -> Result<V
 /// The wanted values as they are meant beside those that are there: what no column says stays.
 pub(crate) fn meant_values(
     alloc: Global,
-    kept: Kept,
+    kept: KeptFields,
     there: &[Value],
     wanted: &[Value],
 ) -> Result<Vec<Value>, AllocError>

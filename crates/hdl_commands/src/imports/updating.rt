@@ -3,11 +3,11 @@
 ghost use Rattle.std.specs.Prelude.{OnOk};
 ghost use Rattle.hdl_commands.specs.Update.{OnlyReads};
 
-use crate::fault::WordFault;
+use crate::fault::ArgumentFault;
 use crate::imports::counts::{Counts, print_code};
 use crate::imports::reading::{Reading, Readings, read_part};
 use crate::imports::rows::Part;
-use crate::imports::update::{Kept, Steps, meant_values, steps_to, value_at};
+use crate::imports::update::{KeptFields, Steps, meant_values, steps_to, value_at};
 use crate::words::line_of;
 use hdl_client::{Batch, ClientFault, Key, Session, Task, Transport};
 use hdl_limits::{Items, Octets};
@@ -18,8 +18,8 @@ use std::alloc::{AllocError, Global};
 
 /// How handles that are there are updated.
 #[derive(Clone, Copy)]
-pub(crate) struct Manner {
-    pub kept: Kept,
+pub(crate) struct UpdateMode {
+    pub kept: KeptFields,
     /// Whether the file names the index of each value.
     pub names_indexes: bool,
     /// Whether it is only told what would be changed.
@@ -63,13 +63,13 @@ fn changes(alloc: Global, there: &[Value], values: &[Value]) -> Result<String, A
 }
 
 /// Why a value isn't put in the place of the one that is there: that one is a key, or of another type though no index was named.
-fn obstacle(manner: Manner, there: &[Value], value: &Value) -> Option<WordFault> {
+fn obstacle(update_mode: UpdateMode, there: &[Value], value: &Value) -> Option<ArgumentFault> {
     let old = value_at(value.index, there)?;
     if old.is_secret_key() {
-        return Some(WordFault::KeyThere(value.index));
+        return Some(ArgumentFault::KeyThere(value.index));
     }
-    if !manner.names_indexes && old.kind.as_slice() != value.kind.as_slice() {
-        return Some(WordFault::OtherType(value.index));
+    if !update_mode.names_indexes && old.kind.as_slice() != value.kind.as_slice() {
+        return Some(ArgumentFault::OtherType(value.index));
     }
     None
 }
@@ -81,15 +81,15 @@ fn handle_of(alloc: Global, task: &Task) -> Result<Octets, AllocError> {
 /// The requests that bring the wanted values to a handle where those are there.
 fn steps_of(
     alloc: Global,
-    manner: Manner,
+    update_mode: UpdateMode,
     task: &Task,
     there: &[Value],
     wanted: &[Value],
-) -> Result<Vec<Step>, WordFault> {
-    let wanted = meant_values(alloc, manner.kept, there, wanted)?;
+) -> Result<Vec<Step>, ArgumentFault> {
+    let wanted = meant_values(alloc, update_mode.kept, there, wanted)?;
     let Steps { modified, added } = steps_to(alloc, there, &wanted)?;
     for value in &modified {
-        if let Some(fault) = obstacle(manner, there, value) {
+        if let Some(fault) = obstacle(update_mode, there, value) {
             return Err(fault);
         }
     }
@@ -118,7 +118,7 @@ fn steps_of(
 }
 
 /// Says what a step changes, or would change.
-fn tell_step(rt: &HostRuntime, task: &Task, step: &Step, is_dry: bool) {
+fn report_step(rt: &HostRuntime, task: &Task, step: &Step, is_dry: bool) {
     let done = match (step.is_addition, is_dry) {
         (false, false) => "changed",
         (false, true) => "would be changed",
@@ -131,7 +131,7 @@ fn tell_step(rt: &HostRuntime, task: &Task, step: &Step, is_dry: bool) {
     );
 }
 
-fn tell_fault(rt: &HostRuntime, task: &Task, fault: WordFault) {
+fn report_fault(rt: &HostRuntime, task: &Task, fault: ArgumentFault) {
     let _ = println!(rt; "line {}: {}: {fault}", task.line, task.title);
 }
 
@@ -147,14 +147,14 @@ fn send_step<S: Transport>(
     let reply = match session.ask(task.request.wire(), &step.body, key) {
         Ok(reply) => reply,
         Err(ClientFault::TooLong) => {
-            tell_fault(rt, task, WordFault::TooLong);
+            report_fault(rt, task, ArgumentFault::TooLong);
             return Ok(false);
         }
         Err(fault) => return Err(fault),
     };
     let code = reply.view().header.response_code;
     if code == ResponseCode::Success.number() {
-        tell_step(rt, task, step, false);
+        report_step(rt, task, step, false);
         counts.busy = 0;
         return Ok(true);
     }
@@ -188,19 +188,19 @@ struct Plan {
 
 /// What a part of a file comes to: the tasks of handles that aren't there, and the plans of those that are.
 #[derive(Drop)]
-pub(crate) struct Outlook {
+pub(crate) struct Preview {
     pub absent: Vec<Task>,
     plans: Vec<Plan>,
 }
 
 /// What a part of a file comes to by what is there.
-fn outlook_of(
+fn preview_of(
     rt: &HostRuntime,
-    manner: Manner,
+    update_mode: UpdateMode,
     part: Part,
     found: &[Reading],
     counts: &mut Counts,
-) -> Result<Outlook, AllocError> {
+) -> Result<Preview, AllocError> {
     let alloc = rt.alloc();
     let Part { tasks, rows } = part;
     let mut absent = Vec::new(alloc);
@@ -213,15 +213,15 @@ fn outlook_of(
             absent.push(task)?;
             continue;
         };
-        match steps_of(alloc, manner, &task, there, rows) {
+        match steps_of(alloc, update_mode, &task, there, rows) {
             Ok(steps) => plans.push(Plan { task, steps })?,
             Err(fault) => {
-                tell_fault(rt, &task, fault);
+                report_fault(rt, &task, fault);
                 counts.fail();
             }
         }
     }
-    Ok(Outlook { absent, plans })
+    Ok(Preview { absent, plans })
 }
 
 /// Asks what is there of the handles of a part, and what that comes to.
@@ -230,9 +230,9 @@ fn look<S: Transport>(
     session: &mut Session<S>,
     part: Part,
     batch: &mut Batch,
-    manner: Manner,
+    update_mode: UpdateMode,
     counts: &mut Counts,
-) -> Result<Outlook, ClientFault>
+) -> Result<Preview, ClientFault>
     ensures { OnOk result (OnlyReads S.Transport batch.new.keys.items session.old.stream session.new.stream) }
 {
     let mut readings = Readings {
@@ -243,7 +243,7 @@ fn look<S: Transport>(
     let ended = read_part(session, &part, batch, &mut readings);
     *counts = readings.counts;
     ended?;
-    Ok(outlook_of(rt, manner, part, &readings.found, counts)?)
+    Ok(preview_of(rt, update_mode, part, &readings.found, counts)?)
 }
 
 /// Tells what an update would do to the handles of a part.
@@ -252,19 +252,19 @@ pub(crate) fn preview_part<S: Transport>(
     session: &mut Session<S>,
     part: Part,
     batch: &mut Batch,
-    manner: Manner,
+    update_mode: UpdateMode,
     counts: &mut Counts,
 ) -> Result<(), ClientFault>
     ensures { OnOk result (OnlyReads S.Transport batch.new.keys.items session.old.stream session.new.stream) }
 {
-    let outlook = look(rt, session, part, batch, manner, counts)?;
-    for task in &outlook.absent {
+    let preview = look(rt, session, part, batch, update_mode, counts)?;
+    for task in &preview.absent {
         let _ = println!(rt; "line {}: {}: would be created", task.line, task.title);
         counts.created = counts.created.saturating_add(1);
     }
-    for plan in &outlook.plans {
+    for plan in &preview.plans {
         for step in &plan.steps {
-            tell_step(rt, &plan.task, step, true);
+            report_step(rt, &plan.task, step, true);
         }
         if plan.steps.is_empty() {
             counts.there = counts.there.saturating_add(1);
@@ -282,10 +282,10 @@ pub(crate) fn update_part<S: Transport>(
     session: &mut Session<S>,
     part: Part,
     batch: &mut Batch,
-    manner: Manner,
+    update_mode: UpdateMode,
     counts: &mut Counts,
 ) -> Result<Vec<Task>, ClientFault> {
-    let Outlook { absent, plans } = look(rt, session, part, batch, manner, counts)?;
+    let Preview { absent, plans } = look(rt, session, part, batch, update_mode, counts)?;
     for plan in &plans {
         if plan.steps.is_empty() {
             counts.there = counts.there.saturating_add(1);

@@ -1,12 +1,12 @@
 //! Replacements, asked of a server.
 
 use crate::advice::{Asked, KeyWords, advice};
-use crate::fault::WordFault;
+use crate::fault::ArgumentFault;
 use crate::imports::HEADER;
 use crate::key::key_of;
-use crate::replaces::course::{Counts, Course};
 use crate::replaces::fault::ReplaceFault;
-use crate::telling::tell_fault;
+use crate::replaces::run::{Counts, ReplaceRun};
+use crate::reporting::report_fault;
 use crate::words::code_name;
 use hdl_client::{Key, Session, Transport, connect};
 use hdl_limits::Octets;
@@ -23,7 +23,7 @@ const MODE: u32 = 0o600;
 
 /// What is replaced, and where.
 #[derive(Drop)]
-pub struct Replacement {
+pub struct ReplaceOptions {
     /// The prefix of the handles.
     pub prefix: String,
     /// How URLs begin.
@@ -45,7 +45,7 @@ pub struct Replacement {
 }
 
 /// The name of a prefix's administrative handle.
-fn authority_of(alloc: Global, prefix: &str) -> Result<Name, WordFault> {
+fn authority_of(alloc: Global, prefix: &str) -> Result<Name, ArgumentFault> {
     let handle = if prefix.contains('/') {
         String::from_str(alloc, prefix)?
     } else {
@@ -53,7 +53,7 @@ fn authority_of(alloc: Global, prefix: &str) -> Result<Name, WordFault> {
     };
     let name = Name::read(alloc, handle.as_bytes())?;
     if !name.is_admin_handle() {
-        return Err(WordFault::Prefix);
+        return Err(ArgumentFault::Prefix);
     }
     Ok(name)
 }
@@ -95,7 +95,7 @@ fn listed<S: Transport>(
 }
 
 /// Makes the file that the old values go to. One that is there stays: it may be what is needed to undo an earlier replacement.
-fn undo_file(rt: &HostRuntime, replacement: &Replacement) -> Result<Option<File>, ReplaceFault> {
+fn undo_file(rt: &HostRuntime, replacement: &ReplaceOptions) -> Result<Option<File>, ReplaceFault> {
     let Some(path) = &replacement.undo else {
         return Ok(None);
     };
@@ -120,7 +120,7 @@ fn undo_file(rt: &HostRuntime, replacement: &Replacement) -> Result<Option<File>
 /// The handles of the file that is named, if one is.
 fn named(
     rt: &HostRuntime,
-    replacement: &Replacement,
+    replacement: &ReplaceOptions,
 ) -> Result<Option<Vec<Vec<u8>>>, ReplaceFault> {
     let Some(path) = &replacement.handles else {
         return Ok(None);
@@ -131,16 +131,16 @@ fn named(
     }
 }
 
-fn course_of<'r>(
+fn replace_run_of<'r>(
     rt: &'r HostRuntime,
-    replacement: &'r Replacement,
+    replacement: &'r ReplaceOptions,
     authority: &Name,
-) -> Result<Course<'r>, ReplaceFault> {
+) -> Result<ReplaceRun<'r>, ReplaceFault> {
     if replacement.old.is_empty() {
-        return Err(WordFault::NoOld.into());
+        return Err(ArgumentFault::NoOld.into());
     }
     let key = key_of(rt, &replacement.key)?;
-    Ok(Course {
+    Ok(ReplaceRun {
         rt,
         replacement,
         key,
@@ -157,11 +157,11 @@ fn course_of<'r>(
 
 /// Replaces in the handles that the file named, or else in those that the server lists. Prints how many came to what.
 fn replace(
-    course: &mut Course<'_>,
+    replace_run: &mut ReplaceRun<'_>,
     authority: &Name,
     from_file: Option<Vec<Vec<u8>>>,
 ) -> Result<u8, ReplaceFault> {
-    let (rt, replacement) = (course.rt, course.replacement);
+    let (rt, replacement) = (replace_run.rt, replace_run.replacement);
     let mut session = connect(rt, &replacement.server)?;
     let handles = match from_file {
         Some(handles) => handles,
@@ -170,15 +170,15 @@ fn replace(
             &mut session,
             replacement.wire,
             authority,
-            &course.key,
+            &replace_run.key,
         )?,
     };
-    let ended = course.replace_all(&mut session, &handles);
+    let ended = replace_run.replace_all(&mut session, &handles);
     let Counts {
         changed,
         kept,
         failed,
-    } = course.counts;
+    } = replace_run.counts;
     let _ = if replacement.is_dry {
         println!(rt;
             "{changed} would be changed, {kept} have no such URL, {failed} failed; only questions were sent"
@@ -191,30 +191,30 @@ fn replace(
 }
 
 /// Removes the file for the old values, if it was made and has none: the next run would refuse it.
-fn remove_unused(course: Course<'_>) {
-    let Course {
+fn remove_unused(replace_run: ReplaceRun<'_>) {
+    let ReplaceRun {
         rt,
         replacement,
         undo,
         has_old,
         ..
-    } = course;
+    } = replace_run;
     if let (Some(_), Some(path), false) = (undo, &replacement.undo, has_old) {
         let _ = fs::remove_file(rt, path.as_str());
     }
 }
 
-fn run(rt: &HostRuntime, replacement: &Replacement) -> Result<u8, ReplaceFault> {
+fn run(rt: &HostRuntime, replacement: &ReplaceOptions) -> Result<u8, ReplaceFault> {
     let authority = authority_of(rt.alloc(), &replacement.prefix)?;
     let from_file = named(rt, replacement)?;
-    let mut course = course_of(rt, replacement, &authority)?;
-    let ended = replace(&mut course, &authority, from_file);
-    remove_unused(course);
+    let mut replace_run = replace_run_of(rt, replacement, &authority)?;
+    let ended = replace(&mut replace_run, &authority, from_file);
+    remove_unused(replace_run);
     ended
 }
 
 /// What can be done besides if the server lists no handles.
-fn way_to_a_list(code: Option<ResponseCode>) -> &'static str {
+fn advice_on_list(code: Option<ResponseCode>) -> &'static str {
     match code {
         Some(ResponseCode::Error) => "; name them by --handles FILE, one on a line",
         Some(
@@ -230,7 +230,11 @@ fn way_to_a_list(code: Option<ResponseCode>) -> &'static str {
 }
 
 /// What to do if the server answers by this code in the place of a list.
-fn list_advice(alloc: Global, replacement: &Replacement, number: u32) -> Result<String, WordFault> {
+fn list_advice(
+    alloc: Global,
+    replacement: &ReplaceOptions,
+    number: u32,
+) -> Result<String, ArgumentFault> {
     let authority = authority_of(alloc, &replacement.prefix)?;
     let asked = Asked {
         operation: OpCode::ListHandles,
@@ -241,19 +245,19 @@ fn list_advice(alloc: Global, replacement: &Replacement, number: u32) -> Result<
 }
 
 /// Says on standard error that the server answered by this code in the place of a list.
-fn tell_no_list(rt: &HostRuntime, replacement: &Replacement, number: u32) {
+fn report_no_list(rt: &HostRuntime, replacement: &ReplaceOptions, number: u32) {
     let alloc = rt.alloc();
     // without memory for it the advice is missing
     let way = list_advice(alloc, replacement, number).unwrap_or_else(|_| String::new(alloc));
-    let more = way_to_a_list(ResponseCode::of(number));
+    let more = advice_on_list(ResponseCode::of(number));
     let _ = eprintln!(rt; "hdl: no list: {number} {}{way}{more}", code_name(number));
 }
 
 /// Says on standard error why a replacement stopped.
-fn tell(rt: &HostRuntime, replacement: &Replacement, fault: &ReplaceFault) {
+fn report(rt: &HostRuntime, replacement: &ReplaceOptions, fault: &ReplaceFault) {
     let _ = match fault {
         ReplaceFault::Client(fault) => {
-            tell_fault(rt, &replacement.server, *fault);
+            report_fault(rt, &replacement.server, *fault);
             eprintln!(rt; "; start again: what was changed has no such URL any more")
         }
         ReplaceFault::Handles(_) => {
@@ -264,7 +268,7 @@ fn tell(rt: &HostRuntime, replacement: &Replacement, fault: &ReplaceFault) {
             eprintln!(rt; "hdl: {file}: {fault}: check --handles")
         }
         ReplaceFault::List(number) => {
-            tell_no_list(rt, replacement, *number);
+            report_no_list(rt, replacement, *number);
             Ok(())
         }
         other => eprintln!(rt; "hdl: {other}"),
@@ -275,11 +279,11 @@ fn tell(rt: &HostRuntime, replacement: &Replacement, fault: &ReplaceFault) {
 /// octets begins with the new ones afterwards, and nothing else of a value changes. Prints what is changed, or in a dry run would be, and how
 /// many handles came to what. Answers the exit status: 0, 1 where a handle failed or there is no list, 2 where nothing was sent, and 3
 /// where the connection failed.
-pub fn replace_urls(rt: &HostRuntime, replacement: &Replacement) -> u8 {
+pub fn replace_urls(rt: &HostRuntime, replacement: &ReplaceOptions) -> u8 {
     match run(rt, replacement) {
         Ok(status) => status,
         Err(fault) => {
-            tell(rt, replacement, &fault);
+            report(rt, replacement, &fault);
             fault.status()
         }
     }

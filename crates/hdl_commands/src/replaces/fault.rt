@@ -1,6 +1,6 @@
 //! Why a replacement stopped.
 
-use crate::fault::WordFault;
+use crate::fault::ArgumentFault;
 use hdl_client::ClientFault;
 use std::alloc::{AllocError, AllocFailed};
 use std::io;
@@ -10,7 +10,7 @@ use thiserror::Error;
 #[derive(Debug, Drop, Error)]
 pub(crate) enum ReplaceFault {
     #[error("{0}")]
-    Words(WordFault),
+    Words(ArgumentFault),
     #[error("the file of handles can't be read: {0}")]
     Handles(io::Error),
     #[error("the file for --undo can't be made: {0}: name a file that isn't there")]
@@ -64,8 +64,8 @@ impl<T: Drop> From<AllocFailed<T>> for ReplaceFault {
     }
 }
 
-impl From<WordFault> for ReplaceFault {
-    fn from(fault: WordFault) -> ReplaceFault {
+impl From<ArgumentFault> for ReplaceFault {
+    fn from(fault: ArgumentFault) -> ReplaceFault {
         ReplaceFault::Words(fault)
     }
 }
