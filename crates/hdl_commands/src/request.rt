@@ -1,5 +1,8 @@
 //! Requests in words.
 
+ghost use Rattle.std.specs.Prelude.{IfOk};
+ghost use Rattle.hdl_value.specs.Spelling.{CanBeSpelt};
+
 use crate::fault::ArgumentFault;
 use hdl_limits::{Items, Octets};
 use hdl_lines::{LineFault, index_in, read_value_line};
@@ -34,7 +37,9 @@ fn fault_in(words: &str, fault: LineFault) -> ArgumentFault {
 }
 
 /// The value that words say.
-pub(crate) fn value_in(alloc: Global, words: &str) -> Result<Value, ArgumentFault> {
+pub(crate) fn value_in(alloc: Global, words: &str) -> Result<Value, ArgumentFault>
+    ensures { IfOk result CanBeSpelt }
+{
     match read_value_line(alloc, words.as_bytes()) {
         Ok(value) => Ok(value),
         Err(fault) => Err(fault_in(words, fault)),
