@@ -15,7 +15,7 @@ from lib import repository
 
 BLOCK = re.compile(r"^//! ```rust\n//! // (crates/\S+\.rt)\n(.*?)^//! ```$", re.M | re.S)
 # Libraries whose functions are laws alone.
-LAWS = ("hdl_follows", "hdl_journal", "hdl_together")
+LAWS = ("hdl_peers_laws", "hdl_journal", "hdl_cluster_laws")
 
 
 def libraries():

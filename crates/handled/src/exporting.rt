@@ -6,7 +6,7 @@ use crate::plan::UNSERVABLE;
 use crate::ports::report_empty;
 use crate::sharing::export_cluster;
 use crate::texts::text_of;
-use hdl_programs::{status_of_words, tenants_of};
+use hdl_programs::{tenants_of, usage_status};
 use hdl_server_options::{ExportOptions, ExportSource, TableFile};
 use hdl_tables::{Export, ExportText, check_new_path, check_publisher, is_new, missing_fault};
 use std::net::{Net, TcpStream};
@@ -30,7 +30,7 @@ fn export_file<R: Threads + Drop>(
     }
     let tenants = tenants_of(rt.alloc(), text.text)?;
     if !check_publisher(rt, &tenants, text.publisher) {
-        return Ok(status_of_words(false));
+        return Ok(usage_status(false));
     }
     Ok(over_unserved(machine, rt, file, Export { tenants, text })?)
 }

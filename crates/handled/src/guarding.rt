@@ -1,6 +1,6 @@
 //! What is checked before a change is written, and reported of it.
 
-use hdl_guardedrows::{Effect, Fate, Guard};
+use hdl_guardedrows::{Effect, Guard, WriteResult};
 use hdl_host::{FileChange, FileWatch, Health};
 use std::sync::Arc;
 use std::time::Instant;
@@ -52,10 +52,10 @@ impl TableGuard {
     }
 
     /// Reports how long the write took that was under way, if it is in the file.
-    fn note_commit(&mut self, fate: Fate) {
+    fn note_commit(&mut self, fate: WriteResult) {
         let begun = self.begun.take();
         if let (Some(begun), Ok(now)) = (begun, Instant::now(&self.rt)) {
-            if fate != Fate::Failed {
+            if fate != WriteResult::Failed {
                 let time = now.saturating_duration_since(begun);
                 self.health.note_commit(time);
             }
@@ -71,7 +71,7 @@ impl TableGuard {
 }
 
 impl Guard for TableGuard {
-    fn permits(&mut self, effect: Effect) -> bool {
+    fn authorize(&mut self, effect: Effect) -> bool {
         let may = self.check_file() && (effect == Effect::Frees || self.check_room());
         if may && self.file.is_some() {
             self.begun = Instant::now(&self.rt).ok();
@@ -79,8 +79,8 @@ impl Guard for TableGuard {
         may
     }
 
-    fn note(&mut self, fate: Fate) {
-        if fate == Fate::Forbidden {
+    fn note(&mut self, fate: WriteResult) {
+        if fate == WriteResult::Forbidden {
             if self.change.is_none() {
                 self.health.note_refusal();
             }
@@ -90,8 +90,8 @@ impl Guard for TableGuard {
             file.note(&self.rt);
         }
         self.note_commit(fate);
-        if fate != Fate::Deferred && !self.is_shared {
-            self.health.note_write(fate == Fate::Made);
+        if fate != WriteResult::Deferred && !self.is_shared {
+            self.health.note_write(fate == WriteResult::Made);
         }
         if self.is_memory_short {
             self.check_room();

@@ -3,7 +3,7 @@
 //! `handled` and `handled replay` are [`hdl_replay::replay`], handed the standard streams and a table in SQL, in memory.
 //! `handled serve` is [`hdl_host::host_tenants`], handed the tenants text on standard input, or in a file, and such a table, whose handles are kept where they
 //! were read last (hdl_cachedrows). `handled check` says what such a text has, or all of its faults (hdl_tenants_check), `handled export` writes a table as such a text (hdl_export), `handled copy` and
-//! `handled restore` copy its file while it is served and put a copy back. With `--table FILE` both go on over the table in that file (hdl_lastingrows). What is printed, the fault lines and the exit statuses are those of docs/PROTOCOL.md, "The tenants
+//! `handled restore` copy its file while it is served and put a copy back. With `--table FILE` both go on over the table in that file (hdl_durablerows). What is printed, the fault lines and the exit statuses are those of docs/PROTOCOL.md, "The tenants
 //! text and scripts". The command line is hdl_server_options, and what opens, copies and exports tables hdl_tables.
 #![tactic(auto)]
 
@@ -28,7 +28,7 @@ use exporting::export_table;
 use fault::ProgramFault;
 use hdl_cachedrows::LIMIT_DEFAULT;
 use hdl_host::{Health, ServerConfig};
-use hdl_programs::{Fault, status_of_words};
+use hdl_programs::{Fault, usage_status};
 use hdl_server_options::{
     BoundOption, ClusterOptions, Invocation, ServeOptions, TableFile, read_options,
 };
@@ -36,7 +36,7 @@ use hdl_tables::{FileWork, TableRunFault, copy_table, empty_table, restore_table
 use monitoring::{is_one_file, reopen, report_log_conflict, stop};
 use notices::TableNotices;
 use opening::{open_plan_table, table_path};
-use plan::{Plan, PlanResult, plan_of, setting_of};
+use plan::{Plan, PlanResult, config_of, plan_of};
 use replaying::{ReadScript, replay_input};
 use serving::{serve_memory, serve_table};
 use sharing::serve_cluster;
@@ -125,11 +125,11 @@ fn serve_plan<
 fn plan_in(
     rt: &HostRuntime,
     path: Option<String>,
-    setting: ServerConfig,
+    config: ServerConfig,
     bounds: Vec<BoundOption>,
 ) -> Result<PlanResult, Fault> {
     let text = text_of(rt, path)?;
-    plan_of(rt, text.as_str(), setting, bounds)
+    plan_of(rt, text.as_str(), config, bounds)
 }
 
 /// Serves the tenants of a text, and answers the exit status.
@@ -156,9 +156,9 @@ fn serve<
         table,
         cluster,
     } = options;
-    let setting = setting_of(rt, addresses, limits, takes_changes, monitoring)?;
+    let config = config_of(rt, addresses, limits, takes_changes, monitoring)?;
     let kept = table_location(table, cluster, row_cache);
-    match plan_in(rt, text, setting, bounds)? {
+    match plan_in(rt, text, config, bounds)? {
         PlanResult::Plan(plan) => serve_plan(machine, rt, plan, kept),
         PlanResult::Refused(status) => Ok(status),
     }
@@ -219,7 +219,7 @@ fn restore_file(rt: &HostRuntime, from: &str, table: &str) -> Result<u8, Program
         let _ = eprintln!(rt;
             "restore: --from and --table name one file: name the copy, and the table's file"
         );
-        return Ok(status_of_words(false));
+        return Ok(usage_status(false));
     }
     restore_table(rt, from, table)?;
     Ok(0)
@@ -270,7 +270,7 @@ fn serve_checked<
         + 'static,
 >(machine: &R, rt: &HostRuntime, options: ServeOptions) -> Result<u8, ProgramFault> {
     if report_log_conflict(rt, &options) {
-        return Ok(status_of_words(false));
+        return Ok(usage_status(false));
     }
     serve(machine, rt, options)
 }

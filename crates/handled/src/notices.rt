@@ -1,8 +1,8 @@
 //! What a server says on standard error: as it begins, of its table's file, and as it ends.
 
 use hdl_core::Tenants;
+use hdl_durablerows::ShutObserver;
 use hdl_host::{AMPLIFY_DEFAULT, Health, Limits};
-use hdl_lastingrows::Alarm;
 use hdl_programs::VERSION;
 use hdl_sqlrows::load::Progress;
 use std::alloc::AllocError;
@@ -119,7 +119,7 @@ pub struct TableNotices {
     /// What is reported of the table.
     health: Arc<Health>,
     /// How many times it was reported that the table takes no more writes.
-    rings: u64,
+    shut_notices: u64,
 }
 
 impl TableNotices {
@@ -128,16 +128,16 @@ impl TableNotices {
         TableNotices {
             rt: *rt,
             health,
-            rings: 0,
+            shut_notices: 0,
         }
     }
 }
 
-impl Alarm for TableNotices {
-    ghost rings = { λ s. s.rings };
+impl ShutObserver for TableNotices {
+    ghost shut_notices = { λ s. s.shut_notices };
 
-    fn ring(&mut self) {
-        self.rings = self.rings.saturating_add(1);
+    fn note_shut(&mut self) {
+        self.shut_notices = self.shut_notices.saturating_add(1);
         self.health.shut();
     }
 }

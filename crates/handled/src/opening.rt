@@ -5,8 +5,8 @@ use crate::notices::TableNotices;
 use crate::plan::Plan;
 use crate::ports::{try_control_socket, try_listeners};
 use hdl_core::Tenants;
+use hdl_durablerows::TableFault;
 use hdl_host::{HostFault, ServerConfig};
-use hdl_lastingrows::TableFault;
 use hdl_server_options::TableFile;
 use hdl_tables::{
     Closing, LogNote, LogState, Table, TablePath, TableRunFault, is_new, log_state, missing_fault,
@@ -21,18 +21,12 @@ fn try_sockets(
     rt: &HostRuntime,
     file: &TableFile,
     tenants: &Tenants,
-    setting: &ServerConfig,
+    config: &ServerConfig,
 ) -> Result<(), HostFault> {
     if is_new(rt, file.path.as_str()) {
-        let addresses = setting.addresses.as_slice();
-        try_listeners(
-            rt,
-            rt.alloc(),
-            tenants,
-            addresses,
-            setting.monitoring.status,
-        )?;
-        try_control_socket(rt, &setting.monitoring.control)?;
+        let addresses = config.addresses.as_slice();
+        try_listeners(rt, rt.alloc(), tenants, addresses, config.monitoring.status)?;
+        try_control_socket(rt, &config.monitoring.control)?;
     }
     Ok(())
 }
@@ -47,8 +41,8 @@ pub fn table_path(file: &TableFile) -> TablePath<'_> {
 }
 
 /// What is informed of the table's file in this setting, whose status page shows it.
-fn notices_of(rt: &HostRuntime, setting: &ServerConfig) -> Result<TableNotices, TableFault> {
-    let health = Arc::try_clone(&setting.monitoring.health)?;
+fn notices_of(rt: &HostRuntime, config: &ServerConfig) -> Result<TableNotices, TableFault> {
+    let health = Arc::try_clone(&config.monitoring.health)?;
     Ok(TableNotices::new(rt, health))
 }
 
@@ -59,7 +53,7 @@ fn open_once<R: Threads + Drop, P: Plan>(
     file: &TableFile,
     plan: &P,
 ) -> Result<Table<R, TableNotices>, ProgramFault> {
-    let notices = notices_of(rt, plan.setting())?;
+    let notices = notices_of(rt, plan.config())?;
     let table_path = table_path(file);
     Ok(open_served(machine, rt, table_path, plan.tenants(), notices, true)?)
 }
@@ -95,11 +89,11 @@ pub fn open_plan_table<
     plan: &P,
 ) -> Result<Table<R, TableNotices>, ProgramFault> {
     let path = file.path.as_str();
-    if !plan.setting().takes_changes && is_new(rt, path) {
+    if !plan.config().takes_changes && is_new(rt, path) {
         // a new table would be empty, and a standby would say that no handle is there
         return Err(ProgramFault::from(missing_fault(rt, path)));
     }
-    try_sockets(rt, file, plan.tenants(), plan.setting())?;
+    try_sockets(rt, file, plan.tenants(), plan.config())?;
     let state = log_state(rt, path)?;
     let table = open_once(*machine, rt, file, plan)?;
     match state {

@@ -19,7 +19,7 @@ pub const UNSERVABLE: u8 = 3;
 pub trait Plan: Drop {
     fn tenants(&self) -> &Tenants;
 
-    fn setting(&self) -> &ServerConfig;
+    fn config(&self) -> &ServerConfig;
 
     fn into_parts(self) -> (Tenants, ServerConfig);
 }
@@ -28,7 +28,7 @@ pub trait Plan: Drop {
 #[derive(Drop)]
 pub struct TextPlan {
     tenants: Tenants,
-    setting: ServerConfig,
+    config: ServerConfig,
 }
 
 impl Plan for TextPlan {
@@ -36,13 +36,13 @@ impl Plan for TextPlan {
         &self.tenants
     }
 
-    fn setting(&self) -> &ServerConfig {
-        &self.setting
+    fn config(&self) -> &ServerConfig {
+        &self.config
     }
 
     fn into_parts(self) -> (Tenants, ServerConfig) {
-        let TextPlan { tenants, setting } = self;
-        (tenants, setting)
+        let TextPlan { tenants, config } = self;
+        (tenants, config)
     }
 }
 
@@ -89,7 +89,7 @@ fn monitoring_of(
 }
 
 /// The setting that the options ask for, without bounds.
-pub fn setting_of(
+pub fn config_of(
     rt: &HostRuntime,
     addresses: Vec<IpAddr>,
     limits: LimitOptions,
@@ -111,10 +111,10 @@ pub fn setting_of(
 pub fn plan_of(
     rt: &HostRuntime,
     text: &str,
-    setting: ServerConfig,
+    config: ServerConfig,
     words: Vec<BoundOption>,
 ) -> Result<PlanResult, Fault> {
-    let mut setting = setting;
+    let mut config = config;
     let tenants = tenants_of(rt.alloc(), text)?;
     if report_unservable(rt, text, &tenants) {
         return Ok(PlanResult::Refused(UNSERVABLE));
@@ -122,9 +122,9 @@ pub fn plan_of(
     match bounds_of(rt.alloc(), words, text, &tenants) {
         Ok(bounds) => {
             let notices = notices_of(rt.alloc(), bounds.as_slice())?;
-            setting.monitoring.bounds = Arc::new(rt.alloc(), notices)?;
-            setting.bounds = bounds;
-            Ok(PlanResult::Plan(TextPlan { tenants, setting }))
+            config.monitoring.bounds = Arc::new(rt.alloc(), notices)?;
+            config.bounds = bounds;
+            Ok(PlanResult::Plan(TextPlan { tenants, config }))
         }
         Err(fault) => {
             let _ = eprintln!(rt; "{fault}");

@@ -21,22 +21,22 @@ use std::sync::Arc;
 use std::thread::Threads;
 
 /// Whether the server was asked to end, which is looked at after its end.
-pub fn shutdown_of(setting: &ServerConfig) -> Result<Arc<ShutdownFlag>, Fault> {
-    Ok(Arc::try_clone(&setting.monitoring.shutdown)?)
+pub fn shutdown_of(config: &ServerConfig) -> Result<Arc<ShutdownFlag>, Fault> {
+    Ok(Arc::try_clone(&config.monitoring.shutdown)?)
 }
 
 /// What is reported of the table, which is looked at after the end.
-pub fn health_of(setting: &ServerConfig) -> Result<Arc<Health>, Fault> {
-    Ok(Arc::try_clone(&setting.monitoring.health)?)
+pub fn health_of(config: &ServerConfig) -> Result<Arc<Health>, Fault> {
+    Ok(Arc::try_clone(&config.monitoring.health)?)
 }
 
 /// The guard of a table that is served in this setting, and of its file, where it has one.
 fn guard_of(
     rt: &HostRuntime,
-    setting: &ServerConfig,
+    config: &ServerConfig,
     file: Option<FileWatch>,
 ) -> Result<TableGuard, Fault> {
-    Ok(TableGuard::new(rt, health_of(setting)?, file))
+    Ok(TableGuard::new(rt, health_of(config)?, file))
 }
 
 /// The table's file as it is now, for who looks at it.
@@ -74,18 +74,18 @@ pub fn serve_memory<
 >(machine: &R, rt: &HostRuntime, rows: T, plan: P, row_cache: usize) -> Result<u8, ProgramFault>
     requires empty { T.content rows ≡ no_rows }
 {
-    let limits = plan.setting().limits;
+    let limits = plan.config().limits;
     report_descriptors(rt, plan.tenants(), limits);
     let kept = TableDescription::Memory { row_cache };
     let startup_line = startup_line_of(rt, plan.tenants(), kept, limits).map_err(Fault::from)?;
     let mut output = rt.stdout();
-    let shutdown = shutdown_of(plan.setting())?;
-    let health = health_of(plan.setting())?;
-    let guard = guard_of(rt, plan.setting(), None)?;
-    let (tenants, mut setting) = plan.into_parts();
-    setting.monitoring.startup_line = startup_line;
+    let shutdown = shutdown_of(plan.config())?;
+    let health = health_of(plan.config())?;
+    let guard = guard_of(rt, plan.config(), None)?;
+    let (tenants, mut config) = plan.into_parts();
+    config.monitoring.startup_line = startup_line;
     let rows = GuardedRows::new(rows, guard);
-    host_tenants(machine, rt.alloc(), rows, tenants, setting, &mut output)?;
+    host_tenants(machine, rt.alloc(), rows, tenants, config, &mut output)?;
     report_end(rt, &health, shutdown.is_requested());
     Ok(0)
 }
@@ -105,22 +105,22 @@ pub fn serve_table<
     T: Owing + Closing + Drop,
     P: Plan,
 >(machine: &R, rt: &HostRuntime, table: T, plan: P, path: &str) -> Result<u8, ProgramFault> {
-    let limits = plan.setting().limits;
+    let limits = plan.config().limits;
     report_descriptors(rt, plan.tenants(), limits);
     let kept = TableDescription::File {
         path,
-        takes_changes: plan.setting().takes_changes,
+        takes_changes: plan.config().takes_changes,
     };
     let startup_line = startup_line_of(rt, plan.tenants(), kept, limits).map_err(Fault::from)?;
     let mut output = rt.stdout();
-    let shutdown = shutdown_of(plan.setting())?;
-    let health = health_of(plan.setting())?;
-    let guard = guard_of(rt, plan.setting(), watch(rt, path)?)?;
-    let (tenants, mut setting) = plan.into_parts();
-    setting.monitoring.startup_line = startup_line;
-    setting.monitoring.file = watch(rt, path)?;
+    let shutdown = shutdown_of(plan.config())?;
+    let health = health_of(plan.config())?;
+    let guard = guard_of(rt, plan.config(), watch(rt, path)?)?;
+    let (tenants, mut config) = plan.into_parts();
+    config.monitoring.startup_line = startup_line;
+    config.monitoring.file = watch(rt, path)?;
     let rows = GuardedRows::new(table, guard);
-    let rows = host_resumed(machine, rt.alloc(), rows, tenants, setting, &mut output)?;
+    let rows = host_resumed(machine, rt.alloc(), rows, tenants, config, &mut output)?;
     close_guarded(rt, rows)?;
     report_end(rt, &health, shutdown.is_requested());
     Ok(0)

@@ -8,12 +8,12 @@ use crate::notices::{TableDescription, TableNotices, report_end, startup_line_of
 use crate::plan::{Plan, UNSERVABLE};
 use crate::ports::report_empty;
 use crate::serving::{health_of, shutdown_of};
+use hdl_cluster::{ClusterParts, ClusterStatus, SharedRows, prepare};
 use hdl_core::Tenants;
 use hdl_guardedrows::GuardedRows;
 use hdl_host::{Sharing, host_shared, read_shared};
-use hdl_programs::{Fault, status_of_words, tenants_of};
+use hdl_programs::{Fault, tenants_of, usage_status};
 use hdl_server_options::ClusterOptions;
-use hdl_shared::{Beside, SharedRows, Standing, prepare};
 use hdl_tables::{ExportText, check_publisher};
 use std::alloc::AllocError;
 use std::fs::Files;
@@ -24,19 +24,19 @@ use std::sync::Arc;
 use std::thread::Threads;
 
 /// The exit status of a server that has parted from the others: a service file starts it anew.
-const PARTED: u8 = 6;
+const DIVERGED: u8 = 6;
 
 /// The exit status of an export, if there is no table.
 const NO_TABLE: u8 = 4;
 
 /// What a server has beside others, by these options.
-fn beside_of<R: Net<Stream = TcpStream> + Clock + Eprint + RandomSource + Copy + Drop>(
+fn cluster_parts<R: Net<Stream = TcpStream> + Clock + Eprint + RandomSource + Copy + Drop>(
     machine: &R,
     rt: &HostRuntime,
     cluster: ClusterOptions,
-    standing: &Arc<Standing>,
+    standing: &Arc<ClusterStatus>,
     notices: TableNotices,
-) -> Result<Beside<R, TableNotices>, Fault> {
+) -> Result<ClusterParts<R, TableNotices>, Fault> {
     let ClusterOptions { members, name } = cluster;
     let name = name.into_bytes();
     match prepare(machine, rt.alloc(), members, name, standing, notices) {
@@ -46,8 +46,8 @@ fn beside_of<R: Net<Stream = TcpStream> + Clock + Eprint + RandomSource + Copy +
 }
 
 /// Nothing is known of the others yet.
-fn standing(rt: &HostRuntime) -> Result<Arc<Standing>, AllocError> {
-    Ok(Arc::new(rt.alloc(), Standing::new())?)
+fn standing(rt: &HostRuntime) -> Result<Arc<ClusterStatus>, AllocError> {
+    Ok(Arc::new(rt.alloc(), ClusterStatus::new())?)
 }
 
 /// Serves by this plan over the table that the others of a cluster have, and answers the exit status.
@@ -64,20 +64,22 @@ pub fn serve_cluster<
         + 'static,
     P: Plan,
 >(machine: &R, rt: &HostRuntime, cluster: ClusterOptions, plan: P) -> Result<u8, ProgramFault> {
-    let limits = plan.setting().limits;
+    let limits = plan.config().limits;
     report_descriptors(rt, plan.tenants(), limits);
     let kept = TableDescription::Cluster(cluster.name.as_str());
     let startup_line = startup_line_of(rt, plan.tenants(), kept, limits).map_err(Fault::from)?;
     let mut output = rt.stdout();
-    let shutdown = shutdown_of(plan.setting())?;
-    let health = health_of(plan.setting())?;
-    let guard = TableGuard::of_shared(rt, health_of(plan.setting())?);
+    let shutdown = shutdown_of(plan.config())?;
+    let health = health_of(plan.config())?;
+    let guard = TableGuard::of_shared(rt, health_of(plan.config())?);
     let standing = standing(rt).map_err(Fault::from)?;
-    let notices = TableNotices::new(rt, health_of(plan.setting())?);
-    let Beside { rows, news, keeper } = beside_of(machine, rt, cluster, &standing, notices)?;
-    let (tenants, mut setting) = plan.into_parts();
-    setting.monitoring.startup_line = startup_line;
-    setting.monitoring.beside = Some(Arc::try_clone(&standing).map_err(Fault::from)?);
+    let notices = TableNotices::new(rt, health_of(plan.config())?);
+    let ClusterParts { rows, news, keeper } = cluster_parts(
+        machine, rt, cluster, &standing, notices,
+    )?;
+    let (tenants, mut config) = plan.into_parts();
+    config.monitoring.startup_line = startup_line;
+    config.monitoring.beside = Some(Arc::try_clone(&standing).map_err(Fault::from)?);
     let rows = GuardedRows::new(rows, guard);
     let theirs = Arc::try_clone(&standing).map_err(Fault::from)?;
     let sharing = Sharing {
@@ -90,12 +92,12 @@ pub fn serve_cluster<
         rt.alloc(),
         rows,
         tenants,
-        (setting, sharing),
+        (config, sharing),
         &mut output,
     )?;
-    if standing.has_parted() {
+    if standing.has_diverged() {
         let _ = eprintln!(rt; "cluster: the server has parted from the others: start it anew");
-        return Ok(PARTED);
+        return Ok(DIVERGED);
     }
     report_end(rt, &health, shutdown.is_requested());
     Ok(0)
@@ -110,7 +112,9 @@ fn read_cluster<R: Net<Stream = TcpStream> + Clock + Eprint + RandomSource + Cop
 ) -> Result<(SharedRows<TableNotices>, u64), ProgramFault> {
     let standing = standing(rt).map_err(Fault::from)?;
     let notices = TableNotices::new(rt, new_health(rt)?);
-    let Beside { rows, news, keeper } = beside_of(machine, rt, cluster, &standing, notices)?;
+    let ClusterParts { rows, news, keeper } = cluster_parts(
+        machine, rt, cluster, &standing, notices,
+    )?;
     let theirs = Arc::try_clone(&standing).map_err(Fault::from)?;
     let sharing = Sharing {
         news,
@@ -133,7 +137,7 @@ pub fn export_cluster<R: Net<Stream = TcpStream> + Clock + Eprint + RandomSource
     }
     let tenants = tenants_of(rt.alloc(), text.text)?;
     if !check_publisher(rt, &tenants, text.publisher) {
-        return Ok(status_of_words(false));
+        return Ok(usage_status(false));
     }
     let (mut rows, changes) = read_cluster(machine, rt, cluster, tenants)?;
     if changes == 0 {

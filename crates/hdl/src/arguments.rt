@@ -7,7 +7,7 @@ use hdl_commands::{
     ExportFormat, ImportOptions, ReplaceOptions, RequestOptions, SiteOptions, operation_in,
 };
 use hdl_msg::OpCode;
-use hdl_programs::{status_of_words, words_of};
+use hdl_programs::{arguments_of, usage_status};
 use hdl_value::Wire;
 use std::alloc::{AllocError, Global};
 
@@ -235,7 +235,7 @@ fn report_input(rt: &HostRuntime, words: &[String], kind: ErrorKind) {
 
 /// Reads the command line, and prints what `clap` has to say of it.
 pub fn read_arguments(rt: &HostRuntime) -> Invocation {
-    let Ok(words) = words_of(rt) else {
+    let Ok(words) = arguments_of(rt) else {
         let _ = eprintln!(rt;
             "error: a word of the command line is not UTF-8, or there is no memory for it"
         );
@@ -250,7 +250,7 @@ pub fn read_arguments(rt: &HostRuntime) -> Invocation {
             report_input(rt, words.as_slice(), kind);
             match printed {
                 Err(_) if is_help => Invocation::Ended(1),
-                _ => Invocation::Ended(status_of_words(is_help)),
+                _ => Invocation::Ended(usage_status(is_help)),
             }
         }
     }

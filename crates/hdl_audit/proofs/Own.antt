@@ -6,8 +6,8 @@ use Rattle.std.proofs.lemmas.Bool.{eqb-true}
 use Rattle.std.proofs.lemmas.List.Quantifiers.{position-Some}
 use Rattle.hdl_audit.specs.declared.answer.ReplySummary.{ReplySummary}
 use Rattle.hdl_audit.specs.declared.follower.Challenged.{Challenged}
-use Rattle.hdl_audit.specs.declared.question.Matter.{Matter}
-use Rattle.hdl_audit.specs.declared.question.Matter.TheVariants.{Change, Other}
+use Rattle.hdl_audit.specs.declared.question.RequestKind.{RequestKind}
+use Rattle.hdl_audit.specs.declared.question.RequestKind.TheVariants.{Change, Other}
 use Rattle.hdl_audit.specs.declared.question.UnansweredFrame.{UnansweredFrame}
 use Rattle.hdl_audit.specs.Naming.{IsAsked, IsChallenged, IsOwnChallenge, IsPending, handle_octets}
 use Rattle.hdl_audit.specs.ReplySummary.{is_challenge}
@@ -25,16 +25,16 @@ pending_at xs i peer session one found is =
     let both = both_true (one.peer == peer) (one.session == session) yes in
     (one, (i, w.0, sym is), eqb-true one.peer peer both.0, eqb-true one.session session both.1, refl, refl)
 
-pub challenged_by : (matter : Matter) (peer : ℕ) (answer : ReplySummary) (x y : Challenged) → x ≡ y → matter ≡ Change y.operation y.handle → y.peer ≡ peer → y.session ≡ answer.session → is_challenge answer ≡ true → IsChallenged matter peer answer x
-challenged_by matter peer answer x y same asked own session told = subst (IsChallenged matter peer answer) (sym same) (asked, own, session, told)
+pub challenged_by : (request_kind : RequestKind) (peer : ℕ) (answer : ReplySummary) (x y : Challenged) → x ≡ y → request_kind ≡ Change y.operation y.handle → y.peer ≡ peer → y.session ≡ answer.session → is_challenge answer ≡ true → IsChallenged request_kind peer answer x
+challenged_by request_kind peer answer x y same asked own session told = subst (IsChallenged request_kind peer answer) (sym same) (asked, own, session, told)
 
-no_other : (matter : Matter) (operation : ℕ) (x : Challenged) → matter ≡ Other operation → matter ≡ Change x.operation x.handle → ⊥
-no_other matter operation x other change = cc
+no_other : (request_kind : RequestKind) (operation : ℕ) (x : Challenged) → request_kind ≡ Other operation → request_kind ≡ Change x.operation x.handle → ⊥
+no_other request_kind operation x other change = cc
 
-pub own_challenge : (frames : List UnansweredFrame) (peer : ℕ) (told : Option ReplySummary) (answer : ReplySummary) (matter : Matter) (x : Challenged)
-    → Some answer ≡ told → (matter ≡ Other 0) ⊎ IsAsked frames peer matter → IsChallenged matter peer answer x → IsOwnChallenge frames peer told x
-own_challenge frames peer told answer matter x is (inl other) new = absurd (no_other matter 0 x other new.0)
-own_challenge frames peer told answer matter x is (inr asked) new = subst (λ t. IsOwnChallenge frames peer t x) is (matter, asked, new)
+pub own_challenge : (frames : List UnansweredFrame) (peer : ℕ) (told : Option ReplySummary) (answer : ReplySummary) (request_kind : RequestKind) (x : Challenged)
+    → Some answer ≡ told → (request_kind ≡ Other 0) ⊎ IsAsked frames peer request_kind → IsChallenged request_kind peer answer x → IsOwnChallenge frames peer told x
+own_challenge frames peer told answer request_kind x is (inl other) new = absurd (no_other request_kind 0 x other new.0)
+own_challenge frames peer told answer request_kind x is (inr asked) new = subst (λ t. IsOwnChallenge frames peer t x) is (request_kind, asked, new)
 
 pub peer_of : {E : Type 0} (asked : Result (Option UnansweredFrame) E) (peer : ℕ) (x : UnansweredFrame) → asked ≡ Ok (Some x) → IfOk asked (λ o. IfSome o (λ question. question.peer ≡ peer)) → x.peer ≡ peer
 peer_of asked peer x is own = subst (λ r. IfOk r (λ o. IfSome o (λ question. question.peer ≡ peer))) is own

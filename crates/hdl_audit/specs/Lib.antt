@@ -1,3 +1,3 @@
-pub mod Matter
+pub mod RequestKind
 pub mod Naming
 pub mod ReplySummary

@@ -5,7 +5,7 @@ ghost use Rattle.hdl_audit.specs.ReplySummary.{answer_of, changes, ends_change};
 
 use crate::answer::ReplySummary;
 use crate::entry::{Entry, KeyName};
-use crate::question::{Detail, Matter, UNKNOWN, UnansweredFrame, copy_of};
+use crate::question::{Detail, RequestKind, UNKNOWN, UnansweredFrame, copy_of};
 use std::alloc::{AllocError, Global};
 use std::collections::VecDeque;
 
@@ -52,7 +52,7 @@ pub struct Follower {
 impl Follower {
     ghost use Rattle.std.specs.Prelude.{◌⊎◌, ◌==◌, ◌&&◌, [], IfOk, Ok, Some};
     ghost use Rattle.std.specs.List.{position};
-    ghost use Rattle.hdl_audit.specs.Matter.{is_consistent};
+    ghost use Rattle.hdl_audit.specs.RequestKind.{is_consistent};
     ghost use Rattle.hdl_audit.specs.Naming.{IsAsked, IsChallenged, IsOwnChallenge, IsPending, NamesBy, NamesNothing, NamesOwn, OnlyGains, handle_octets};
 
     /// A follower at the beginning of a connection, or of a lane of datagrams.
@@ -78,7 +78,7 @@ impl Follower {
     }
 
     /// A frame came that can't be followed, so it isn't certain any more which one is answered next.
-    pub fn lose(&mut self)
+    pub fn mark_uncertain(&mut self)
         ensures frames { self.new.unanswered.items ≡ self.old.unanswered.items }
         ensures challenged { self.new.challenged.items ≡ self.old.challenged.items }
     {
@@ -146,8 +146,8 @@ impl Follower {
     }
 
     /// Takes what a reply with this RequestId answers, if this peer asked it. Where that isn't certain nothing is followed any more.
-    fn take_matter(&mut self, peer: u16, request: u32) -> Matter
-        ensures asked { (result ≡ Matter.Other 0) ⊎ IsAsked self.old.unanswered.items peer result }
+    fn take_request_kind(&mut self, peer: u16, request: u32) -> RequestKind
+        ensures asked { (result ≡ RequestKind.Other 0) ⊎ IsAsked self.old.unanswered.items peer result }
         ensures consistent { is_consistent result ≡ true }
         ensures challenged { self.new.challenged.items ≡ self.old.challenged.items }
     {
@@ -162,7 +162,7 @@ impl Follower {
             self.unanswered.pop_front();
         }
         match self.unanswered.pop_front() {
-            Some(question) if question.peer == peer => question.matter,
+            Some(question) if question.peer == peer => question.request_kind,
             _ => UNKNOWN,
         }
     }
@@ -227,16 +227,16 @@ impl Follower {
     }
 
     /// The number of the operation that a reply to this matter answers.
-    fn operation_of(&self, peer: u16, matter: &Matter, answer: ReplySummary) -> u32
+    fn operation_of(&self, peer: u16, request_kind: &RequestKind, answer: ReplySummary) -> u32
         ensures { 0 < answer.operation → result ≡ answer.operation }
     {
         if answer.operation != 0 {
             return answer.operation;
         }
-        match matter {
-            Matter::Change { operation, .. } | Matter::Other { operation } => *operation,
-            Matter::Response { challenge, .. } => self.challenged_operation(peer, *challenge),
-            Matter::Piece => 0,
+        match request_kind {
+            RequestKind::Change { operation, .. } | RequestKind::Other { operation } => *operation,
+            RequestKind::Response { challenge, .. } => self.challenged_operation(peer, *challenge),
+            RequestKind::Piece => 0,
         }
     }
 
@@ -261,7 +261,7 @@ impl Follower {
     ) -> Option<Entry>
         ensures told { IsTrue (ends_change answer) → IsSome result }
         ensures change { IfSome result (λ entry. changes entry.operation ≡ true) }
-        ensures own { IfSome result (λ entry. NamesNothing entry ⊎ NamesBy (Matter.Response challenge key) self.old.challenged.items peer entry) }
+        ensures own { IfSome result (λ entry. NamesNothing entry ⊎ NamesBy (RequestKind.Response challenge key) self.old.challenged.items peer entry) }
         ensures kept { OnlyGains self.old.challenged.items (λ _. ⊥) self.new.challenged.items }
         ensures code { IfSome result (λ entry. entry.code ≡ answer.code) }
     {
@@ -277,16 +277,21 @@ impl Follower {
     }
 
     /// The entry of a reply to this matter.
-    fn entry_of(&mut self, peer: u16, matter: Matter, answer: ReplySummary) -> Option<Entry>
-        requires { is_consistent matter ≡ true }
+    fn entry_of(
+        &mut self,
+        peer: u16,
+        request_kind: RequestKind,
+        answer: ReplySummary,
+    ) -> Option<Entry>
+        requires { is_consistent request_kind ≡ true }
         ensures told { IsTrue (ends_change answer) → IsSome result }
         ensures change { IfSome result (λ entry. changes entry.operation ≡ true) }
-        ensures own { IfSome result (λ entry. NamesNothing entry ⊎ NamesBy matter self.old.challenged.items peer entry) }
-        ensures challenged { OnlyGains self.old.challenged.items (IsChallenged matter peer answer) self.new.challenged.items }
+        ensures own { IfSome result (λ entry. NamesNothing entry ⊎ NamesBy request_kind self.old.challenged.items peer entry) }
+        ensures challenged { OnlyGains self.old.challenged.items (IsChallenged request_kind peer answer) self.new.challenged.items }
         ensures code { IfSome result (λ entry. entry.code ≡ answer.code) }
     {
-        match matter {
-            Matter::Change { operation, handle } if answer.is_challenge() => {
+        match request_kind {
+            RequestKind::Change { operation, handle } if answer.is_challenge() => {
                 self.put_challenged(Challenged {
                     peer,
                     session: answer.session,
@@ -295,16 +300,16 @@ impl Follower {
                 });
                 None
             }
-            Matter::Change { operation, handle } => Some(Entry {
+            RequestKind::Change { operation, handle } => Some(Entry {
                 operation,
                 handle,
                 key: None,
                 code: answer.code,
             }),
-            Matter::Response { challenge, key } => {
+            RequestKind::Response { challenge, key } => {
                 self.entry_of_response(peer, challenge, key, answer)
             }
-            Matter::Piece | Matter::Other { .. } => entry_without_name(answer),
+            RequestKind::Piece | RequestKind::Other { .. } => entry_without_name(answer),
         }
     }
 
@@ -320,9 +325,9 @@ impl Follower {
         ensures code { IfSome result (λ followed. IfSome followed.entry (λ entry. entry.code ≡ followed.answer.code)) }
     {
         let answer = ReplySummary::of(frame)?;
-        let matter = self.take_matter(peer, answer.request);
-        let operation = self.operation_of(peer, &matter, answer);
-        let entry = self.entry_of(peer, matter, answer);
+        let request_kind = self.take_request_kind(peer, answer.request);
+        let operation = self.operation_of(peer, &request_kind, answer);
+        let entry = self.entry_of(peer, request_kind, answer);
         Some(Followed {
             answer,
             operation,

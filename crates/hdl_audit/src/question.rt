@@ -2,7 +2,7 @@
 
 ghost use Rattle.std.specs.Prelude.{◌≡◌, true, IfOk};
 ghost use Rattle.hdl_audit.specs.ReplySummary.{changes};
-ghost use Rattle.hdl_audit.specs.Matter.{is_consistent};
+ghost use Rattle.hdl_audit.specs.RequestKind.{is_consistent};
 
 use crate::answer::changes;
 use crate::entry::KeyName;
@@ -23,7 +23,7 @@ pub enum Detail {
 
 /// What a whole frame asks, as far as an entry and a count speak of it.
 #[derive(Drop)]
-pub enum Matter {
+pub enum RequestKind {
     /// A change of the handle, as it was sent, where names are followed.
     Change {
         operation: u32,
@@ -47,12 +47,12 @@ pub enum Matter {
 pub struct UnansweredFrame {
     pub peer: u16,
     pub request: u32,
-    pub matter: Matter,
-    ghost consistent: { is_consistent matter ≡ true },
+    pub request_kind: RequestKind,
+    ghost consistent: { is_consistent request_kind ≡ true },
 }
 
 /// What asks nothing that is known.
-pub const UNKNOWN: Matter = Matter::Other { operation: 0 };
+pub const UNKNOWN: RequestKind = RequestKind::Other { operation: 0 };
 
 /// A copy on the heap.
 pub fn copy_of(alloc: Global, octets: &[u8]) -> Result<Vec<u8>, AllocError>
@@ -69,18 +69,18 @@ fn change_of(
     detail: Detail,
     operation: u32,
     body: &[u8],
-) -> Result<Matter, AllocError>
+) -> Result<RequestKind, AllocError>
     requires { changes operation ≡ true }
-    ensures { IfOk result (λ matter. is_consistent matter ≡ true) }
+    ensures { IfOk result (λ request_kind. is_consistent request_kind ≡ true) }
 {
     let Some((handle, _)) = string_at(body) else {
-        return Ok(Matter::Other { operation });
+        return Ok(RequestKind::Other { operation });
     };
     let handle = match detail {
         Detail::Names => Some(copy_of(alloc, handle)?),
         Detail::Operations => None,
     };
-    Ok(Matter::Change { operation, handle })
+    Ok(RequestKind::Change { operation, handle })
 }
 
 /// The key that a response's body names, after the type of authentication.
@@ -96,8 +96,8 @@ fn response_of(
     detail: Detail,
     challenge: u32,
     body: &[u8],
-) -> Result<Matter, AllocError>
-    ensures { IfOk result (λ matter. is_consistent matter ≡ true) }
+) -> Result<RequestKind, AllocError>
+    ensures { IfOk result (λ request_kind. is_consistent request_kind ≡ true) }
 {
     let Some((handle, index)) = key_at(body) else {
         return Ok(UNKNOWN);
@@ -109,30 +109,30 @@ fn response_of(
         }),
         Detail::Operations => None,
     };
-    Ok(Matter::Response { challenge, key })
+    Ok(RequestKind::Response { challenge, key })
 }
 
 /// What a whole message asks.
-fn matter_of(
+fn request_kind_of(
     alloc: Global,
     detail: Detail,
     session: u32,
     message: &[u8],
-) -> Result<Matter, AllocError>
-    ensures { IfOk result (λ matter. is_consistent matter ≡ true) }
+) -> Result<RequestKind, AllocError>
+    ensures { IfOk result (λ request_kind. is_consistent request_kind ≡ true) }
 {
     let Some((operation, _)) = u32_at(message) else {
         return Ok(UNKNOWN);
     };
     let Some((_, body)) = message.split_at_checked(HEADER_LEN) else {
-        return Ok(Matter::Other { operation });
+        return Ok(RequestKind::Other { operation });
     };
     if changes(operation) {
         change_of(alloc, detail, operation, body)
     } else if operation == OpCode::ChallengeResponse as u32 {
         response_of(alloc, detail, session, body)
     } else {
-        Ok(Matter::Other { operation })
+        Ok(RequestKind::Other { operation })
     }
 }
 
@@ -141,7 +141,7 @@ impl UnansweredFrame {
 
     /// Whether it is a piece of a message.
     pub fn is_piece(&self) -> bool {
-        matches!(self.matter, Matter::Piece)
+        matches!(self.request_kind, RequestKind::Piece)
     }
 
     /// What a frame asks, which a peer sent. None: it has no envelope.
@@ -157,15 +157,15 @@ impl UnansweredFrame {
             return Ok(None);
         };
         let envelope = Envelope::read(head);
-        let matter = if envelope.is_truncated() {
-            Matter::Piece
+        let request_kind = if envelope.is_truncated() {
+            RequestKind::Piece
         } else {
-            matter_of(alloc, detail, envelope.session, message)?
+            request_kind_of(alloc, detail, envelope.session, message)?
         };
         Ok(Some(UnansweredFrame {
             peer,
             request: envelope.request,
-            matter,
+            request_kind,
         }))
     }
 }

@@ -23,23 +23,23 @@ use std::alloc::Global;
 use std::marker::Model;
 
 /// Is informed of each write that a bound refused.
-pub trait Alarm {
+pub trait BoundObserver {
     /// The publisher at this place among the bounds would have more than its bound.
-    fn ring(&mut self, place: usize, bound: &Bound);
+    fn note_exceeded(&mut self, place: usize, bound: &Bound);
 }
 
 /// A table with a bound for each of some publishers. Contracts see what the table holds, how many calls were refused by it or by a bound,
 /// what was read, what is counted for each publisher with a bound, and what the table owes.
 #[derive(Drop)]
-pub struct BoundedRows<R: Owing + Drop, A: Alarm + Drop> {
+pub struct BoundedRows<R: Owing + Drop, A: BoundObserver + Drop> {
     rows: R,
     accounts: Accounts,
     refusals: u64,
     reads: u64,
-    alarm: A,
+    observer: A,
 }
 
-impl<R: Owing + Drop, A: Alarm + Drop> Model for BoundedRows<R, A> {
+impl<R: Owing + Drop, A: BoundObserver + Drop> Model for BoundedRows<R, A> {
     ghost use Rattle.std.specs.Prelude.{◌+◌, min, map};
     ghost use Rattle.hdl_rows.specs.Table.{most};
     ghost use Rattle.hdl_boundedrows.specs.Bounded.{Bounded, bounded_code, holding_of};
@@ -52,10 +52,10 @@ impl<R: Owing + Drop, A: Alarm + Drop> Model for BoundedRows<R, A> {
 }
 
 /// Refuses a write that would take a publisher beyond its bound, counts that, and tells of it.
-fn permit<A: Alarm>(
+fn permit<A: BoundObserver>(
     accounts: &Accounts,
     refusals: &mut u64,
-    alarm: &mut A,
+    observer: &mut A,
     prefix: &[u8],
     change: CountChange,
 ) -> Result<(), Refused>
@@ -66,7 +66,7 @@ fn permit<A: Alarm>(
         return Ok(());
     }
     if let Some((place, bound)) = accounts.first_beyond(prefix, change) {
-        alarm.ring(place, bound);
+        observer.note_exceeded(place, bound);
     }
     *refusals = refusals.saturating_add(1);
     Err(Refused)
@@ -127,7 +127,7 @@ fn held_by<R: Rows>(alloc: Global, rows: &mut R, roots: &[Name]) -> Result<Amoun
     Ok(sum)
 }
 
-impl<R: Owing + Drop, A: Alarm + Drop> BoundedRows<R, A> {
+impl<R: Owing + Drop, A: BoundObserver + Drop> BoundedRows<R, A> {
     /// A table that is there already, with these bounds. What each publisher holds is counted.
     ///
     /// Refused where the table refuses a look, for want of memory, or where a handle of a prefix isn't a name in canonical form. The table is
@@ -136,7 +136,7 @@ impl<R: Owing + Drop, A: Alarm + Drop> BoundedRows<R, A> {
         alloc: Global,
         mut rows: R,
         bounds: Vec<Bound>,
-        alarm: A,
+        observer: A,
     ) -> Result<BoundedRows<R, A>, Refused>
         ensures table { IfOk result (λ bounded. bounded.table ≡ R.content rows) }
         ensures holdings { IfOk result (λ bounded. bounded.holdings ≡ map (holding_at_first (R.content rows)) bounds.items) }
@@ -151,7 +151,7 @@ impl<R: Owing + Drop, A: Alarm + Drop> BoundedRows<R, A> {
             accounts,
             refusals: 0,
             reads: 0,
-            alarm,
+            observer,
         })
     }
 
@@ -163,7 +163,7 @@ impl<R: Owing + Drop, A: Alarm + Drop> BoundedRows<R, A> {
     }
 }
 
-impl<R: Owing + Drop, A: Alarm + Drop> Rows for BoundedRows<R, A> {
+impl<R: Owing + Drop, A: BoundObserver + Drop> Rows for BoundedRows<R, A> {
     ghost content = { λ s. s.table };
 
     ghost refused = { λ s. s.refused };
@@ -269,7 +269,7 @@ impl<R: Owing + Drop, A: Alarm + Drop> Rows for BoundedRows<R, A> {
         permit(
             &self.accounts,
             &mut self.refusals,
-            &mut self.alarm,
+            &mut self.observer,
             prefix,
             change,
         )?;
@@ -301,7 +301,7 @@ impl<R: Owing + Drop, A: Alarm + Drop> Rows for BoundedRows<R, A> {
         permit(
             &self.accounts,
             &mut self.refusals,
-            &mut self.alarm,
+            &mut self.observer,
             prefix,
             change,
         )?;
@@ -334,7 +334,7 @@ impl<R: Owing + Drop, A: Alarm + Drop> Rows for BoundedRows<R, A> {
         permit(
             &self.accounts,
             &mut self.refusals,
-            &mut self.alarm,
+            &mut self.observer,
             prefix,
             change,
         )?;
@@ -400,7 +400,7 @@ impl<R: Owing + Drop, A: Alarm + Drop> Rows for BoundedRows<R, A> {
     }
 }
 
-impl<R: Owing + Drop, A: Alarm + Drop> Owing for BoundedRows<R, A> {
+impl<R: Owing + Drop, A: BoundObserver + Drop> Owing for BoundedRows<R, A> {
     ghost debt = { λ s. s.debt };
 
     fn hands_over(&self) -> bool {
@@ -411,7 +411,7 @@ impl<R: Owing + Drop, A: Alarm + Drop> Owing for BoundedRows<R, A> {
         self.rows.owed()
     }
 
-    fn let_write(&mut self, may_write: bool) {
-        self.rows.let_write(may_write);
+    fn set_may_write(&mut self, may_write: bool) {
+        self.rows.set_may_write(may_write);
     }
 }

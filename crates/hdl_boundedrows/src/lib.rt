@@ -2,7 +2,7 @@
 //!
 //! [`BoundedRows`] wraps a table of any kind, and has a count for each [`Bound`]: of the handles that the table has now under the bound's prefixes,
 //! and of their values. A create, an add or a modify that would take a count beyond its bound is refused, the table is as it was, and an
-//! [`Alarm`] is informed. What makes no count larger than it is goes through, and a remove or a delete always does. Every other call goes to the
+//! [`BoundObserver`] is informed. What makes no count larger than it is goes through, and a remove or a delete always does. Every other call goes to the
 //! table as it came.
 //!
 //! What is counted is defined (`specs/Amount.antt`). At the start the bounds are those that were given, in order, and each count is what the table holds
@@ -36,4 +36,4 @@ mod bounded;
 
 pub use account::Bound;
 pub use amount::Amount;
-pub use bounded::{Alarm, BoundedRows};
+pub use bounded::{BoundObserver, BoundedRows};

@@ -7,7 +7,7 @@ use Rattle.hdl_rows.specs.Table.{Table}
 use Rattle.hdl_reach.specs.Reach.{IsMask}
 use Rattle.hdl_reach.specs.Views.{mask_of}
 use Rattle.lru.specs.LruCache.{lru_cache, put_entries}
-use Rattle.hdl_cache.specs.declared.pair.Pair.{Pair}
+use Rattle.hdl_cache.specs.declared.mask_key.MaskKey.{MaskKey}
 
 -- the key whose mask is cached, and the handle for which
 pub record Subject : Type 0 where
@@ -38,8 +38,8 @@ AreMasks t kept = (e : Kept) → Contains kept e → IsMask t e.0.handle e.0.key
 
 -- ---- the code's entries, as they are seen
 
-abbrev pub subject_of : Pair → Subject
+abbrev pub subject_of : MaskKey → Subject
 subject_of p = subject p.handle.items (record { handle = p.key.items; index = p.index })
 
-abbrev pub kept_in : List (Pair × Option AdminMask) → List Kept
+abbrev pub kept_in : List (MaskKey × Option AdminMask) → List Kept
 kept_in es = map (λ e. (subject_of e.0, mask_of e.1)) es

@@ -8,14 +8,14 @@ ghost use Rattle.hdl_reach.specs.Views.{mask_of};
 ghost use Rattle.hdl_cache.specs.Masks.{subject_of};
 ghost use Rattle.hdl_cache.specs.Truth.{IsLast};
 
-use crate::pair::Pair;
+use crate::mask_key::MaskKey;
 use hdl_rows::{Owed, Refused};
 use hdl_value::AdminMask;
 
 /// A mask, and the handle and the key for which it was found.
 #[derive(Drop)]
 pub(crate) struct FoundMask {
-    pair: Pair,
+    pair: MaskKey,
     mask: Option<AdminMask>,
 }
 
@@ -37,7 +37,7 @@ impl LastMask {
     }
 
     /// The mask, if it was found for this handle and key.
-    pub(crate) fn find(&self, pair: &Pair) -> Option<Option<AdminMask>>
+    pub(crate) fn find(&self, pair: &MaskKey) -> Option<Option<AdminMask>>
         ensures { (t : Table) → IsLast t self.now → IfSome result (λ mask. IsMask t (subject_of pair.now).handle (subject_of pair.now).key (mask_of mask)) }
     {
         let found = self.found.as_ref()?;
@@ -48,7 +48,7 @@ impl LastMask {
     }
 
     /// Notes a mask, unless the table owes a write.
-    pub(crate) fn note(&mut self, pair: Pair, mask: Option<AdminMask>, owed: Owed)
+    pub(crate) fn note(&mut self, pair: MaskKey, mask: Option<AdminMask>, owed: Owed)
         ensures kept { is_owed owed ≡ true → self.new ≡ self.old }
         ensures noted { is_owed owed ≡ false → IfSome self.new.found (λ last. (last.pair ≡ pair) × (last.mask ≡ mask)) }
         ensures still_true { (t : Table) → IsLast t self.old → IsMask t (subject_of pair).handle (subject_of pair).key (mask_of mask) → IsLast t self.new }

@@ -38,11 +38,11 @@
 //!   refused `keep` stores nothing.
 #![tactic(auto)]
 
-mod kept;
 mod last;
+mod mask_key;
 mod masked;
-mod pair;
+mod masks;
 mod searches;
 
-pub use kept::Masks;
 pub use masked::{Masked, MaskedRows};
+pub use masks::Masks;

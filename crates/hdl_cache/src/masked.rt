@@ -10,7 +10,7 @@ ghost use Rattle.hdl_reach.specs.Views.{mask_of};
 ghost use Rattle.hdl_cache.specs.Cost.{mask_cost};
 
 use crate::last::LastMask;
-use crate::pair::Pair;
+use crate::mask_key::MaskKey;
 use crate::searches::MasksAndSearches;
 use hdl_limits::Octets;
 use hdl_name::Name;
@@ -84,7 +84,7 @@ impl<R: Rows + Drop> MaskedRows<R> {
 
 impl<R: Owing + Drop> Masked for MaskedRows<R> {
     fn mask(&mut self, name: &Name, key: &Reference) -> Result<Option<AdminMask>, Refused> {
-        let pair = Pair::new(self.alloc, name, key)?;
+        let pair = MaskKey::new(self.alloc, name, key)?;
         if let Some(mask) = self.last.find(&pair) {
             return Ok(mask);
         }
@@ -175,7 +175,7 @@ impl<R: Owing + Drop> Owing for MaskedRows<R> {
         self.rows.owed()
     }
 
-    fn let_write(&mut self, may_write: bool) {
-        self.rows.let_write(may_write);
+    fn set_may_write(&mut self, may_write: bool) {
+        self.rows.set_may_write(may_write);
     }
 }

@@ -2,7 +2,7 @@
 use Rattle.std.proofs.Common.{◌≡◌, ℕ, Bool, true, Vec, List}
 use Rattle.std.specs.Prelude.{bytes_eq}
 use Rattle.std.specs.declared.alloc.Global.{Global}
-use Rattle.hdl_cachedrows.specs.declared.kept.Kept.{Kept}
+use Rattle.hdl_cachedrows.specs.declared.cached_handle.CachedHandle.{CachedHandle}
 use Rattle.lru.specs.LruCache.{LruCache}
 use Rattle.std.proofs.lemmas.Slice.Eq.{bytes_eq-Decides}
 
@@ -21,4 +21,4 @@ alike g h = (bytes_eq-Decides g h).1
 
 -- the cache, as `lru` shows it
 abbrev pub Lru : Type 0
-Lru = LruCache (Vec ℕ Global) Kept
+Lru = LruCache (Vec ℕ Global) CachedHandle

@@ -8,7 +8,7 @@ use Rattle.std.proofs.lemmas.Bool.{eqb-true}
 use Rattle.hdl_value.specs.declared.value.Value.{Value}
 use Rattle.hdl_value.proofs.Places.{handle_itself}
 use Rattle.hdl_rows.specs.Heads.{head}
-use Rattle.hdl_rows.specs.Shelf.{by_index, put_all, table_of, AreInOrder}
+use Rattle.hdl_rows.specs.RowStore.{by_index, put_all, table_of, AreInOrder}
 use Rattle.hdl_rows.specs.Table.{Table, place, at, values_of, value_with, with_values, HaveTheirIndexes}
 use Rattle.hdl_rows.specs.Write.{Add}
 use Rattle.hdl_rows.proofs.Indexed.{stand_at_their_own}

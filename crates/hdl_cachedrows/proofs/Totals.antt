@@ -7,7 +7,7 @@ use Rattle.std.specs.Map.{lookup, lookup_entry, remove_entry}
 use Rattle.std.proofs.lemmas.List.{take_all}
 use Rattle.std.proofs.lemmas.Option.{slice_get-get_or}
 use Rattle.std.proofs.lemmas.List.Sums.{sum_by-cons}
-use Rattle.hdl_cachedrows.specs.declared.kept.Kept.{Kept}
+use Rattle.hdl_cachedrows.specs.declared.cached_handle.CachedHandle.{CachedHandle}
 use Rattle.lru.specs.LruCache.{lru_cache, IsValid, promoted, put_entries, displaced, last_entry}
 use Rattle.hdl_cachedrows.specs.Cost.{Entry, kept_cost, entry_cost, total}
 use Rattle.hdl_limits.specs.Counts.{at_most_u64}
@@ -52,7 +52,7 @@ pub total-pop : (es : List Entry) → total (take (length es - 1) es) + given (l
 total-pop [] = omega arith
 total-pop (e ∷ es) = total-take (length (e ∷ es) - 1) (e ∷ es) ∙ whole (e ∷ es) (suc (length (e ∷ es) - 1)) (omega arith)
 
-module _ (c : Lru) (k : Vec ℕ Global) (v : Kept) where
+module _ (c : Lru) (k : Vec ℕ Global) (v : CachedHandle) where
   -- the value that is looked up is that of the entry
   found : (es : List Entry) → lookup (same_key k) es ≡ option_map_or (λ e. Some e.1) (lookup_entry (same_key k) es) None
   found [] = refl

@@ -11,8 +11,8 @@ use Rattle.hdl_rows.proofs.Writes.{other_handles_stay_lem}
 use Rattle.lru.specs.LruCache.{lru_cache, promoted, put_entries}
 use Rattle.lru.proofs.CallerLemmas.{Contains-lookup, Contains-lookup_entry, Contains-promoted, Contains-put_entries, Contains-take}
 use Rattle.lru.proofs.Splits.{Contains-cons, Contains-head, Contains-nil, Contains-tail}
-use Rattle.hdl_cachedrows.specs.declared.kept.Kept.{Kept}
-use Rattle.hdl_cachedrows.specs.declared.kept.Kept.TheVariants.{Values, Heads}
+use Rattle.hdl_cachedrows.specs.declared.cached_handle.CachedHandle.{CachedHandle}
+use Rattle.hdl_cachedrows.specs.declared.cached_handle.CachedHandle.TheVariants.{Values, Heads}
 use Rattle.hdl_cachedrows.specs.Cost.{Entry}
 use Rattle.hdl_cachedrows.specs.Cache.{IsFound, AreHeads, IsKept, AreTrue, AgreeBut}
 use Rattle.hdl_cachedrows.specs.Cached.{Cached}
@@ -25,12 +25,12 @@ pub used_true : (t : Table) (h : List ℕ) (es : List Entry) → AreTrue t es �
 used_true t h es all e there = all e (Contains-promoted (is_key h) es e there)
 
 -- what is found is of the handle
-pub found_true : (t : Table) (h : List ℕ) (es : List Entry) (k : Kept) → AreTrue t es → Some k ≡ lookup (is_key h) es → IsKept t h k
+pub found_true : (t : Table) (h : List ℕ) (es : List Entry) (k : CachedHandle) → AreTrue t es → Some k ≡ lookup (is_key h) es → IsKept t h k
 found_true t h es k all is =
     let there = Contains-lookup (is_key h) es k (sym is) in
     subst (λ g. IsKept t g k) (sym (same h there.0.items there.2)) (all (there.0, k) there.1)
 
-pub put_true : (t : Table) (c : Lru) (key : Vec ℕ Global) (k : Kept) → AreTrue t c.entries → IsKept t key.items k → AreTrue t (put_entries same_key c key k)
+pub put_true : (t : Table) (c : Lru) (key : Vec ℕ Global) (k : CachedHandle) → AreTrue t c.entries → IsKept t key.items k → AreTrue t (put_entries same_key c key k)
 put_true t c key k all of e there = elim (Contains-put_entries same_key c key k e there) [
   | inl was ↦ all e was
   | inr new ↦
@@ -38,18 +38,18 @@ put_true t c key k all of e there = elim (Contains-put_entries same_key c key k 
         | inl first ↦ ap (λ (j : Vec ℕ Global). j.items) (sym first)
         | inr w ↦ same key.items e.0.items w.2
       ] in
-      subst (λ (l : Kept). IsKept t e.0.items l) (sym new.0) (subst (λ h. IsKept t h k) is of)
+      subst (λ (l : CachedHandle). IsKept t e.0.items l) (sym new.0) (subst (λ h. IsKept t h k) is of)
 ]
 
 -- something was kept, or memory was refused
-pub kept_true : {X E : Type 0} (r : Result X E) (t : Table) (old new : Lru) (key : Vec ℕ Global) (k : Kept) (h : List ℕ)
+pub kept_true : {X E : Type 0} (r : Result X E) (t : Table) (old new : Lru) (key : Vec ℕ Global) (k : CachedHandle) (h : List ℕ)
     → OnOk r (new ≡ lru_cache (put_entries same_key old key k) old.cap) → OnErr r (new ≡ old) → key.items ≡ h → AreTrue t old.entries → IsKept t h k → AreTrue t new.entries
 kept_true (Ok x) t old new key k h done undone is all of =
     subst (λ (c : Lru). AreTrue t c.entries) (sym done) (put_true t old key k all (subst (λ g. IsKept t g k) (sym is) of))
 kept_true (Err e) t old new key k h done undone is all of = subst (λ (c : Lru). AreTrue t c.entries) (sym undone) all
 
 -- a handle of which something is kept is there
-pub kept_there : (t : Table) (h : List ℕ) (k : Kept) → IsKept t h k → has t h ≡ true
+pub kept_there : (t : Table) (h : List ℕ) (k : CachedHandle) → IsKept t h k → has t h ≡ true
 kept_there t h (Values vs) is = is.there
 kept_there t h (Heads vs) is = is.there
 
@@ -113,7 +113,7 @@ left h (f ∷ es) distinct e there = (elim (is_key h f.0) as (λ b. is_key h f.0
 ]) refl
 
 -- what is kept of a handle is that of each table that answers as this one there
-stays : (t u : Table) (h : List ℕ) (k : Kept) → has u h ≡ has t h → ((i : ℕ) → at u (place h i) ≡ at t (place h i)) → values_of u h ≡ values_of t h → IsKept t h k → IsKept u h k
+stays : (t u : Table) (h : List ℕ) (k : CachedHandle) → has u h ≡ has t h → ((i : ℕ) → at u (place h i) ≡ at t (place h i)) → values_of u h ≡ values_of t h → IsKept t h k → IsKept u h k
 stays t u h (Values vs) there at_is of_is is = record { there = there ∙ is.there; found = is.found ∙ sym of_is; by_index = λ i. is.by_index i ∙ sym (at_is i) }
 stays t u h (Heads vs) there at_is of_is is =
     record { there = there ∙ is.there; found = is.found ∙ ap (map head) (sym of_is); by_index = λ i. ap (value_with i) of_is ∙ is.by_index i ∙ sym (at_is i) }

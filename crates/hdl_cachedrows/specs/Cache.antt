@@ -3,8 +3,8 @@ use Rattle.std.specs.Prelude.{ℕ, List, true, ◌≡◌, ◌≢◌, Contains}
 use Rattle.hdl_value.specs.declared.value.Value.{Value}
 use Rattle.hdl_rows.specs.Heads.{heads_of}
 use Rattle.hdl_rows.specs.Table.{Table, place, has, at, values_of, HaveTheirIndexes}
-use Rattle.hdl_cachedrows.specs.declared.kept.Kept.{Kept}
-use Rattle.hdl_cachedrows.specs.declared.kept.Kept.TheVariants.{Values, Heads}
+use Rattle.hdl_cachedrows.specs.declared.cached_handle.CachedHandle.{CachedHandle}
+use Rattle.hdl_cachedrows.specs.declared.cached_handle.CachedHandle.TheVariants.{Values, Heads}
 use Rattle.hdl_cachedrows.specs.Cost.{Entry}
 
 -- The handle is there, and these are its values.
@@ -20,7 +20,7 @@ pub record AreHeads (t : Table) (h : List ℕ) (vs : List Value) : Type 0 where
   pub by_index : HaveTheirIndexes t h (values_of t h)
 
 -- what is kept of a handle is the table's
-abbrev pub IsKept : Table → List ℕ → Kept → Type 0
+abbrev pub IsKept : Table → List ℕ → CachedHandle → Type 0
 IsKept t h (Values vs) = IsFound t h vs.items
 IsKept t h (Heads vs) = AreHeads t h vs.items
 

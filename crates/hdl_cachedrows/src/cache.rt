@@ -5,7 +5,7 @@ ghost use Rattle.hdl_rows.specs.Table.{Table, place, has, at, with_values};
 ghost use Rattle.hdl_cachedrows.specs.Cost.{total};
 ghost use Rattle.hdl_cachedrows.specs.Cache.{AgreeBut, AreHeads, AreTrue, IsFound, IsKept};
 
-use crate::kept::Kept;
+use crate::cached_handle::CachedHandle;
 use hdl_value::Value;
 use lru::LruCache;
 use std::alloc::{AllocError, Global};
@@ -20,7 +20,7 @@ pub(crate) struct Cache {
     pub(crate) alloc: Global,
     pub(crate) limit: usize,
     pub(crate) octets: usize,
-    pub(crate) kept: LruCache<Vec<u8>, Kept, RandomState>,
+    pub(crate) kept: LruCache<Vec<u8>, CachedHandle, RandomState>,
     ghost counted: { octets ≡ total kept.entries },
     ghost bounded: { octets ≤ limit },
 }
@@ -104,7 +104,7 @@ impl Cache {
         ensures same_limit { self.new.limit ≡ self.old.limit }
     {
         let share = self.limit / SHARES;
-        let Ok(kept) = Kept::of(self.alloc, name, values, share) else {
+        let Ok(kept) = CachedHandle::of(self.alloc, name, values, share) else {
             return;
         };
         let Ok(name) = Vec::from_slice(self.alloc, name) else {
@@ -114,7 +114,7 @@ impl Cache {
     }
 
     /// Keeps this of a handle, unless it costs more than its share. Want of memory keeps nothing.
-    fn insert(&mut self, name: Vec<u8>, kept: Kept)
+    fn insert(&mut self, name: Vec<u8>, kept: CachedHandle)
         ensures still_true { (t : Table) → AreTrue t self.old.kept.entries → IsKept t name.items kept → AreTrue t self.new.kept.entries }
         ensures same_limit { self.new.limit ≡ self.old.limit }
     {
@@ -148,7 +148,7 @@ impl Cache {
     }
 
     /// Forgets what is kept of a handle, and returns it.
-    pub(crate) fn forget(&mut self, name: &[u8]) -> Option<(Vec<u8>, Kept)>
+    pub(crate) fn forget(&mut self, name: &[u8]) -> Option<(Vec<u8>, CachedHandle)>
         ensures of_table { (t : Table) → AreTrue t self.old.kept.entries → IfSome result (λ entry. (entry.0.items ≡ name.now) × IsKept t name.now entry.1) }
         ensures still_true { (t : Table) (u : Table) → AreTrue t self.old.kept.entries → AgreeBut name.now t u → AreTrue u self.new.kept.entries }
         ensures same_limit { self.new.limit ≡ self.old.limit }

@@ -7,7 +7,7 @@ use hdl_limits::Octets;
 use hdl_name::Name;
 use hdl_rows::heads::into_heads;
 use hdl_rows::reads::{found_octets, names_octets, seen_octets, values_octets, with_call};
-use hdl_rows::{Owed, Owing, Prompt, Refused, Rows};
+use hdl_rows::{Owed, Owing, Refused, Rows, Synchronous};
 use hdl_value::{Reference, Value};
 use std::alloc::{AllocError, Global};
 use std::hash::RandomState;
@@ -177,7 +177,7 @@ impl<R: Rows + Drop> Rows for CachedRows<R> {
     }
 }
 
-impl<R: Prompt + Drop> Owing for CachedRows<R> {
+impl<R: Synchronous + Drop> Owing for CachedRows<R> {
     ghost use Rattle.hdl_rows.specs.Debt.{nothing};
 
     ghost debt = { λ _. nothing };
@@ -190,5 +190,5 @@ impl<R: Prompt + Drop> Owing for CachedRows<R> {
         Owed::Nothing
     }
 
-    fn let_write(&mut self, _may_write: bool) {}
+    fn set_may_write(&mut self, _may_write: bool) {}
 }

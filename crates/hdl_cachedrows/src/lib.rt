@@ -45,7 +45,7 @@
 
 mod cache;
 mod cached;
+mod cached_handle;
 mod cost;
-mod kept;
 
 pub use cached::{CachedRows, LIMIT_DEFAULT};

@@ -11,11 +11,11 @@ use Rattle.hdl_value.specs.declared.wire.Wire.{Wire}
 use Rattle.hdl_msg.specs.Reply.{ReplyParts, SpellsReply}
 use Rattle.hdl_client.proofs.Apart.{all_without}
 use Rattle.hdl_client.proofs.Frames.{added_in_turn}
-use Rattle.hdl_client.specs.Batch.{frames_for, frames_due, AnswersFor, IsOutcome}
+use Rattle.hdl_client.specs.Batch.{frames_for, frames_awaited, AnswersFor, IsOutcome}
 use Rattle.hdl_client.specs.Exchange.{frame_octets, delivery_in}
 use Rattle.hdl_client.specs.Reply.{IsReplyTo}
-use Rattle.hdl_client.specs.Told.{Outcome, told_task, task_of, Run, Brings, AsksFor, WasAsked, AsksForOne, IsToldRight, IsWaiting, IsTaken, IsLaunched, IsRun}
-use Rattle.hdl_client.specs.declared.batch.Flight.{Flight}
+use Rattle.hdl_client.specs.Outcomes.{Outcome, outcome_task, task_of, Run, Brings, AsksFor, WasAsked, AsksForOne, IsOutcomeRight, IsWaiting, IsTaken, IsSentFor, IsRun}
+use Rattle.hdl_client.specs.declared.batch.PendingRequest.{PendingRequest}
 use Rattle.hdl_client.specs.declared.challenge.Key.{Key}
 use Rattle.hdl_client.specs.declared.task.Task.{Task}
 use Rattle.hdl_client.specs.declared.transport.Transport.{Ghosts}
@@ -84,7 +84,7 @@ module _ (keys : List Key) (run after : Run) (part : IsPart run after) where
   proper_still : (tasks : List Task) (frame : List ℕ) → AsksForOne keys run tasks frame → AsksForOne keys after tasks frame
   proper_still tasks frame h = (h.0, h.1, h.2, h.3, asks_on h.0 h.1 h.2 frame h.4)
 
-  right_on : (outcome : Outcome) → IsToldRight keys run outcome → IsToldRight keys after outcome
+  right_on : (outcome : Outcome) → IsOutcomeRight keys run outcome → IsOutcomeRight keys after outcome
   right_on outcome h = record {
     number = h.number;
     has_answered = h.has_answered;
@@ -98,13 +98,13 @@ module _ (keys : List Key) (run after : Run) (part : IsPart run after) where
 -- ---- tasks
 
 -- one flight and those that are left
-parted : (flights : List Flight) (flight : Flight) (rest : List Flight) → IsTaken flights flight rest → IsPermutation (map task_of flights) (task_of flight ∷ map task_of rest)
-parted flights flight rest t =
-    let lt : t.0 < length flights = t.1 in
-    let at : flight ≡ get_or flights t.0 flight = sym t.2 in
-    let all : IsPermutation flights (flight ∷ remove flights t.0) = IsPermutation-remove flights t.0 flight lt at in
-    let tasks : IsPermutation (map task_of flights) (task_of flight ∷ map task_of (remove flights t.0)) = IsPermutation-map task_of flights (flight ∷ remove flights t.0) all in
-    subst (λ l. IsPermutation (map task_of flights) (task_of flight ∷ map task_of l)) (sym t.3) tasks
+parted : (in_flight : List PendingRequest) (pending : PendingRequest) (rest : List PendingRequest) → IsTaken in_flight pending rest → IsPermutation (map task_of in_flight) (task_of pending ∷ map task_of rest)
+parted in_flight pending rest t =
+    let lt : t.0 < length in_flight = t.1 in
+    let at : pending ≡ get_or in_flight t.0 pending = sym t.2 in
+    let all : IsPermutation in_flight (pending ∷ remove in_flight t.0) = IsPermutation-remove in_flight t.0 pending lt at in
+    let tasks : IsPermutation (map task_of in_flight) (task_of pending ∷ map task_of (remove in_flight t.0)) = IsPermutation-map task_of in_flight (pending ∷ remove in_flight t.0) all in
+    subst (λ l. IsPermutation (map task_of in_flight) (task_of pending ∷ map task_of l)) (sym t.3) tasks
 
 -- ---- what may still come
 
@@ -124,25 +124,25 @@ less all left one rest e some l = omega (arith, e, some, l)
 less_by_one : (all left one rest more next : ℕ) → all ≡ one + rest → one ≡ 2 → left ≡ rest → more ≡ left + next → next ≡ 1 → more < all
 less_by_one all left one rest more next e two l m n = omega (arith, e, two, l, m, n)
 
-due_without : (flights : List Flight) (place : ℕ) (flight : Flight) → place < length flights → get_or flights place flight ≡ flight → frames_due flights ≡ frames_for flight.is_answer + frames_due (remove flights place)
-due_without [] place flight lt e = absurd (omega (arith, lt))
-due_without (f ∷ fs) zero flight lt e = ap (λ (x : Flight). frames_for x.is_answer + frames_due fs) e
-due_without (f ∷ fs) (suc place) flight lt e = turn (frames_due fs) (frames_for flight.is_answer) (frames_due (remove fs place)) (frames_for f.is_answer) (due_without fs place flight (omega (arith, lt)) e)
+due_without : (in_flight : List PendingRequest) (place : ℕ) (pending : PendingRequest) → place < length in_flight → get_or in_flight place pending ≡ pending → frames_awaited in_flight ≡ frames_for pending.is_answer + frames_awaited (remove in_flight place)
+due_without [] place pending lt e = absurd (omega (arith, lt))
+due_without (f ∷ fs) zero pending lt e = ap (λ (x : PendingRequest). frames_for x.is_answer + frames_awaited fs) e
+due_without (f ∷ fs) (suc place) pending lt e = turn (frames_awaited fs) (frames_for pending.is_answer) (frames_awaited (remove fs place)) (frames_for f.is_answer) (due_without fs place pending (omega (arith, lt)) e)
 
 zero_last : (a : ℕ) → a + 0 ≡ 0 + a
 zero_last a = omega arith
 
-due_push : (flights : List Flight) (flight : Flight) → frames_due (flights ++ flight ∷ []) ≡ frames_due flights + frames_for flight.is_answer
-due_push [] flight = zero_last (frames_for flight.is_answer)
-due_push (f ∷ fs) flight = further (frames_due (fs ++ flight ∷ [])) (frames_due fs) (frames_for flight.is_answer) (frames_for f.is_answer) (due_push fs flight)
+due_push : (in_flight : List PendingRequest) (pending : PendingRequest) → frames_awaited (in_flight ++ pending ∷ []) ≡ frames_awaited in_flight + frames_for pending.is_answer
+due_push [] pending = zero_last (frames_for pending.is_answer)
+due_push (f ∷ fs) pending = further (frames_awaited (fs ++ pending ∷ [])) (frames_awaited fs) (frames_for pending.is_answer) (frames_for f.is_answer) (due_push fs pending)
 
 -- one reply less
-pub due_told : (flights : List Flight) (flight : Flight) (rest : List Flight) → IsTaken flights flight rest → frames_due rest < frames_due flights
-due_told flights flight rest t = less (frames_due flights) (frames_due rest) (frames_for flight.is_answer) (frames_due (remove flights t.0)) (due_without flights t.0 flight t.1 t.2) (some_for flight.is_answer) (ap frames_due t.3)
+pub due_told : (in_flight : List PendingRequest) (pending : PendingRequest) (rest : List PendingRequest) → IsTaken in_flight pending rest → frames_awaited rest < frames_awaited in_flight
+due_told in_flight pending rest t = less (frames_awaited in_flight) (frames_awaited rest) (frames_for pending.is_answer) (frames_awaited (remove in_flight t.0)) (due_without in_flight t.0 pending t.1 t.2) (some_for pending.is_answer) (ap frames_awaited t.3)
 
 -- one challenge less
-pub due_answered : (flights : List Flight) (flight : Flight) (rest : List Flight) (next : Flight) (more : List Flight) → IsTaken flights flight rest → flight.is_answer ≡ false → next.is_answer ≡ true → more ≡ rest ++ next ∷ [] → frames_due more < frames_due flights
-due_answered flights flight rest next more t once answered e = less_by_one (frames_due flights) (frames_due rest) (frames_for flight.is_answer) (frames_due (remove flights t.0)) (frames_due more) (frames_for next.is_answer) (due_without flights t.0 flight t.1 t.2) (ap frames_for once) (ap frames_due t.3) (ap frames_due e ∙ due_push rest next) (ap frames_for answered)
+pub due_answered : (in_flight : List PendingRequest) (pending : PendingRequest) (rest : List PendingRequest) (next : PendingRequest) (more : List PendingRequest) → IsTaken in_flight pending rest → pending.is_answer ≡ false → next.is_answer ≡ true → more ≡ rest ++ next ∷ [] → frames_awaited more < frames_awaited in_flight
+due_answered in_flight pending rest next more t once answered e = less_by_one (frames_awaited in_flight) (frames_awaited rest) (frames_for pending.is_answer) (frames_awaited (remove in_flight t.0)) (frames_awaited more) (frames_for next.is_answer) (due_without in_flight t.0 pending t.1 t.2) (ap frames_for once) (ap frames_awaited t.3) (ap frames_awaited e ∙ due_push rest next) (ap frames_for answered)
 
 -- ---- steps of a run
 
@@ -154,79 +154,79 @@ module _ {T O : Type 0} (g : Ghosts T) (notes : O → Task → ℕ → O → Typ
     received = none_more (g.received start);
     told = refl;
     each = record { moves = []; below = tt; is = refl };
-    right = All-nil (IsToldRight keys (record { sent = []; came = []; told = [] }));
+    right = All-nil (IsOutcomeRight keys (record { sent = []; came = []; told = [] }));
     waiting = All-nil (IsWaiting keys (record { sent = []; came = []; told = [] }));
     proper = All-nil (AsksForOne keys (record { sent = []; came = []; told = [] }) []);
   }
 
   -- one task more is asked for
-  pub asked_next : (tasks : List Task) (run : Run) (stream new : T) (outcomes : O) (flights more : List Flight) (task : Task)
-      → IsRun g notes keys start begun tasks run stream outcomes flights → IsLaunched g stream flights task 0 task.request.octets false new more
+  pub asked_next : (tasks : List Task) (run : Run) (stream new : T) (outcomes : O) (in_flight more : List PendingRequest) (task : Task)
+      → IsRun g notes keys start begun tasks run stream outcomes in_flight → IsSentFor g stream in_flight task 0 task.request.octets false new more
       → (after : Run) × IsRun g notes keys start begun (tasks ++ task ∷ []) after new outcomes more
-  asked_next tasks run stream new outcomes flights more task r l =
-      let flight : Flight = l.flight in
-      let number : ℕ = flight.request in
+  asked_next tasks run stream new outcomes in_flight more task r l =
+      let pending : PendingRequest = l.pending in
+      let number : ℕ = pending.request in
       let frame : List ℕ = frame_octets 0 number task.request.octets in
       let after : Run = record { sent = run.sent ++ frame ∷ []; came = run.came; told = run.told } in
       let part : IsPart run after = (λ f h. Contains-append_left run.sent (frame ∷ []) f h, λ f h. h) in
       let own : WasAsked keys after task number false = (frame, Contains-push run.sent frame, refl) in
-      let own_task : WasAsked keys after flight.task.now number false = subst (λ (t : Task). WasAsked keys after t number false) (sym l.own) own in
-      let own_flight : IsWaiting keys after flight = subst (λ (b : Bool). WasAsked keys after flight.task.now number b) (sym l.kind) own_task in
-      let waiting : All (IsWaiting keys after) (flights ++ flight ∷ []) = All-append (IsWaiting keys after) flights (flight ∷ [])
-      (each (IsWaiting keys run) (IsWaiting keys after) flights (λ f h. asked_on keys run after part f.task.now f.request f.is_answer h) r.waiting)
-      (All-cons (IsWaiting keys after) flight [] own_flight (All-nil (IsWaiting keys after))) in
-      let done : List Task = map told_task run.told in
-      let left : List Task = map task_of flights in
+      let own_task : WasAsked keys after pending.task.now number false = subst (λ (t : Task). WasAsked keys after t number false) (sym l.own) own in
+      let own_flight : IsWaiting keys after pending = subst (λ (b : Bool). WasAsked keys after pending.task.now number b) (sym l.kind) own_task in
+      let waiting : All (IsWaiting keys after) (in_flight ++ pending ∷ []) = All-append (IsWaiting keys after) in_flight (pending ∷ [])
+      (each (IsWaiting keys run) (IsWaiting keys after) in_flight (λ f h. asked_on keys run after part f.task.now f.request f.is_answer h) r.waiting)
+      (All-cons (IsWaiting keys after) pending [] own_flight (All-nil (IsWaiting keys after))) in
+      let done : List Task = map outcome_task run.told in
+      let left : List Task = map task_of in_flight in
       let longer : IsPermutation (tasks ++ task ∷ []) ((done ++ left) ++ task ∷ []) = IsPermutation-append_left (task ∷ []) tasks (done ++ left) r.each in
-      let tail : map task_of (flights ++ flight ∷ []) ≡ left ++ task ∷ [] = map-append task_of flights (flight ∷ []) ∙ ap (λ (t : Task). left ++ t ∷ []) l.own in
-      let whole : (done ++ left) ++ task ∷ [] ≡ done ++ map task_of (flights ++ flight ∷ []) = append_assoc done left (task ∷ []) ∙ ap (λ (l : List Task). done ++ l) (sym tail) in
+      let tail : map task_of (in_flight ++ pending ∷ []) ≡ left ++ task ∷ [] = map-append task_of in_flight (pending ∷ []) ∙ ap (λ (t : Task). left ++ t ∷ []) l.own in
+      let whole : (done ++ left) ++ task ∷ [] ≡ done ++ map task_of (in_flight ++ pending ∷ []) = append_assoc done left (task ∷ []) ∙ ap (λ (l : List Task). done ++ l) (sym tail) in
       let proper : All (AsksForOne keys after (tasks ++ task ∷ [])) (run.sent ++ frame ∷ []) = All-append (AsksForOne keys after (tasks ++ task ∷ [])) run.sent (frame ∷ [])
       (each (AsksForOne keys run tasks) (AsksForOne keys after (tasks ++ task ∷ [])) run.sent (λ f h. proper_on keys run after part tasks (task ∷ []) f h) r.proper)
       (All-cons (AsksForOne keys after (tasks ++ task ∷ [])) frame [] (task, number, false, Contains-push tasks task, refl) (All-nil (AsksForOne keys after (tasks ++ task ∷ [])))) in
-      let now : IsRun g notes keys start begun (tasks ++ task ∷ []) after new outcomes (flights ++ flight ∷ []) = record {
+      let now : IsRun g notes keys start begun (tasks ++ task ∷ []) after new outcomes (in_flight ++ pending ∷ []) = record {
         sent = frame_more (g.sent start) (g.sent stream) (g.sent new) run.sent frame r.sent l.sent;
         received = kept_after (g.received start) (g.received stream) (g.received new) (concat run.came) r.received l.received;
         told = r.told;
         each = subst (IsPermutation (tasks ++ task ∷ [])) whole longer;
-        right = each (IsToldRight keys run) (IsToldRight keys after) run.told (right_on keys run after part) r.right;
+        right = each (IsOutcomeRight keys run) (IsOutcomeRight keys after) run.told (right_on keys run after part) r.right;
         waiting = waiting;
         proper = proper;
       } in
       (after, subst (IsRun g notes keys start begun (tasks ++ task ∷ []) after new outcomes) (sym l.joined) now)
 
   -- the flight that was taken was asked for
-  was_waiting : (run : Run) (flights : List Flight) (flight : Flight) (rest : List Flight) → IsTaken flights flight rest → All (IsWaiting keys run) flights → IsWaiting keys run flight
-  was_waiting run flights flight rest t all = subst (IsWaiting keys run) t.2 (all t.0 flight t.1)
+  was_waiting : (run : Run) (in_flight : List PendingRequest) (pending : PendingRequest) (rest : List PendingRequest) → IsTaken in_flight pending rest → All (IsWaiting keys run) in_flight → IsWaiting keys run pending
+  was_waiting run in_flight pending rest t all = subst (IsWaiting keys run) t.2 (all t.0 pending t.1)
 
   -- those that are left are waiting still
-  still_waiting : (run after : Run) → IsPart run after → (flights : List Flight) (flight : Flight) (rest : List Flight) → IsTaken flights flight rest → All (IsWaiting keys run) flights → All (IsWaiting keys after) rest
-  still_waiting run after part flights flight rest t all = subst (All (IsWaiting keys after)) (sym t.3)
-      (all_without (IsWaiting keys after) flights t.0 (each (IsWaiting keys run) (IsWaiting keys after) flights (λ f h. asked_on keys run after part f.task.now f.request f.is_answer h) all))
+  still_waiting : (run after : Run) → IsPart run after → (in_flight : List PendingRequest) (pending : PendingRequest) (rest : List PendingRequest) → IsTaken in_flight pending rest → All (IsWaiting keys run) in_flight → All (IsWaiting keys after) rest
+  still_waiting run after part in_flight pending rest t all = subst (All (IsWaiting keys after)) (sym t.3)
+      (all_without (IsWaiting keys after) in_flight t.0 (each (IsWaiting keys run) (IsWaiting keys after) in_flight (λ f h. asked_on keys run after part f.task.now f.request f.is_answer h) all))
 
   -- an outcome is told
-  pub told_one : (tasks : List Task) (run : Run) (stream new : T) (outcomes noted : O) (flights rest : List Flight) (flight : Flight) (frame : List ℕ) (reply : ReplyParts) (code : ℕ)
-      → IsRun g notes keys start begun tasks run stream outcomes flights
+  pub told_one : (tasks : List Task) (run : Run) (stream new : T) (outcomes noted : O) (in_flight rest : List PendingRequest) (pending : PendingRequest) (frame : List ℕ) (reply : ReplyParts) (code : ℕ)
+      → IsRun g notes keys start begun tasks run stream outcomes in_flight
       → Appends (g.received stream) (g.received new) frame → Keeps (g.sent stream) (g.sent new)
-      → IsTaken flights flight rest
-      → IsReplyTo flight.task.now.request.wire flight.request (delivery_in flight.task.now.request.wire frame)
-      → SpellsReply flight.task.now.request.wire (drop 20 frame) reply
-      → IsOutcome keys flight.task.now flight.is_answer reply code
-      → notes outcomes flight.task.now code noted
+      → IsTaken in_flight pending rest
+      → IsReplyTo pending.task.now.request.wire pending.request (delivery_in pending.task.now.request.wire frame)
+      → SpellsReply pending.task.now.request.wire (drop 20 frame) reply
+      → IsOutcome keys pending.task.now pending.is_answer reply code
+      → notes outcomes pending.task.now code noted
       → (after : Run) × IsRun g notes keys start begun tasks after new noted rest
-  told_one tasks run stream new outcomes noted flights rest flight frame reply code r came still taken own read right note =
-      let outcome : Outcome = record { task = flight.task.now; code = code } in
+  told_one tasks run stream new outcomes noted in_flight rest pending frame reply code r came still taken own read right note =
+      let outcome : Outcome = record { task = pending.task.now; code = code } in
       let after : Run = record { sent = run.sent; came = run.came ++ frame ∷ []; told = run.told ++ outcome ∷ [] } in
       let part : IsPart run after = (λ f h. h, λ f h. Contains-append_left run.came (frame ∷ []) f h) in
-      let done : List Task = map told_task run.told in
-      let left : List Task = map task_of flights in
-      let parts : IsPermutation (done ++ left) (done ++ (flight.task.now ∷ map task_of rest)) = IsPermutation-append_right done left (flight.task.now ∷ map task_of rest) (parted flights flight rest taken) in
-      let all : IsPermutation tasks (done ++ (flight.task.now ∷ map task_of rest)) = IsPermutation-trans tasks (done ++ left) (done ++ (flight.task.now ∷ map task_of rest)) r.each parts in
-      let whole : done ++ (flight.task.now ∷ map task_of rest) ≡ map told_task (run.told ++ outcome ∷ []) ++ map task_of rest =
-      sym (append_assoc done (flight.task.now ∷ []) (map task_of rest)) ∙ ap (λ (l : List Task). l ++ map task_of rest) (sym (map-append told_task run.told (outcome ∷ []))) in
-      let told_right : IsToldRight keys after outcome = record {
-        number = flight.request;
-        has_answered = flight.is_answer;
-        asked = asked_on keys run after part flight.task.now flight.request flight.is_answer (was_waiting run flights flight rest taken r.waiting);
+      let done : List Task = map outcome_task run.told in
+      let left : List Task = map task_of in_flight in
+      let parts : IsPermutation (done ++ left) (done ++ (pending.task.now ∷ map task_of rest)) = IsPermutation-append_right done left (pending.task.now ∷ map task_of rest) (parted in_flight pending rest taken) in
+      let all : IsPermutation tasks (done ++ (pending.task.now ∷ map task_of rest)) = IsPermutation-trans tasks (done ++ left) (done ++ (pending.task.now ∷ map task_of rest)) r.each parts in
+      let whole : done ++ (pending.task.now ∷ map task_of rest) ≡ map outcome_task (run.told ++ outcome ∷ []) ++ map task_of rest =
+      sym (append_assoc done (pending.task.now ∷ []) (map task_of rest)) ∙ ap (λ (l : List Task). l ++ map task_of rest) (sym (map-append outcome_task run.told (outcome ∷ []))) in
+      let told_right : IsOutcomeRight keys after outcome = record {
+        number = pending.request;
+        has_answered = pending.is_answer;
+        asked = asked_on keys run after part pending.task.now pending.request pending.is_answer (was_waiting run in_flight pending rest taken r.waiting);
         frame = frame;
         reply = reply;
         came = record { came = Contains-push run.came frame; own = own; read = read };
@@ -238,37 +238,37 @@ module _ {T O : Type 0} (g : Ghosts T) (notes : O → Task → ℕ → O → Typ
           received = frame_more (g.received start) (g.received stream) (g.received new) run.came frame r.received came;
           told = folds_push (λ (old : O) (one : Outcome) (newer : O). notes old one.task one.code newer) run.told begun outcomes noted outcome r.told note;
           each = subst (IsPermutation tasks) whole all;
-          right = All-append (IsToldRight keys after) run.told (outcome ∷ [])
-              (each (IsToldRight keys run) (IsToldRight keys after) run.told (right_on keys run after part) r.right)
-              (All-cons (IsToldRight keys after) outcome [] told_right (All-nil (IsToldRight keys after)));
-          waiting = still_waiting run after part flights flight rest taken r.waiting;
+          right = All-append (IsOutcomeRight keys after) run.told (outcome ∷ [])
+              (each (IsOutcomeRight keys run) (IsOutcomeRight keys after) run.told (right_on keys run after part) r.right)
+              (All-cons (IsOutcomeRight keys after) outcome [] told_right (All-nil (IsOutcomeRight keys after)));
+          waiting = still_waiting run after part in_flight pending rest taken r.waiting;
           proper = each (AsksForOne keys run tasks) (AsksForOne keys after tasks) run.sent (proper_still keys run after part tasks) r.proper;
         },
       )
 
   -- a challenge is answered
-  pub answered_one : (tasks : List Task) (run : Run) (stream mid new : T) (outcomes : O) (flights rest more : List Flight) (flight : Flight) (frame : List ℕ) (reply : ReplyParts) (answer : List ℕ)
-      → IsRun g notes keys start begun tasks run stream outcomes flights
+  pub answered_one : (tasks : List Task) (run : Run) (stream mid new : T) (outcomes : O) (in_flight rest more : List PendingRequest) (pending : PendingRequest) (frame : List ℕ) (reply : ReplyParts) (answer : List ℕ)
+      → IsRun g notes keys start begun tasks run stream outcomes in_flight
       → Appends (g.received stream) (g.received mid) frame → Keeps (g.sent stream) (g.sent mid)
-      → IsTaken flights flight rest
-      → IsReplyTo flight.task.now.request.wire flight.request (delivery_in flight.task.now.request.wire frame)
-      → SpellsReply flight.task.now.request.wire (drop 20 frame) reply
-      → flight.is_answer ≡ false
-      → AnswersFor keys flight.task.now reply answer
-      → IsLaunched g mid rest flight.task.now (envelope_at frame).session answer true new more
+      → IsTaken in_flight pending rest
+      → IsReplyTo pending.task.now.request.wire pending.request (delivery_in pending.task.now.request.wire frame)
+      → SpellsReply pending.task.now.request.wire (drop 20 frame) reply
+      → pending.is_answer ≡ false
+      → AnswersFor keys pending.task.now reply answer
+      → IsSentFor g mid rest pending.task.now (envelope_at frame).session answer true new more
       → (after : Run) × IsRun g notes keys start begun tasks after new outcomes more
-  answered_one tasks run stream mid new outcomes flights rest more flight frame reply answer r came still taken own read once right l =
-      let task : Task = flight.task.now in
-      let next : Flight = l.flight in
+  answered_one tasks run stream mid new outcomes in_flight rest more pending frame reply answer r came still taken own read once right l =
+      let task : Task = pending.task.now in
+      let next : PendingRequest = l.pending in
       let number : ℕ = next.request in
       let went : List ℕ = frame_octets (envelope_at frame).session number answer in
       let after : Run = record { sent = run.sent ++ went ∷ []; came = run.came ++ frame ∷ []; told = run.told } in
       let part : IsPart run after = (λ f h. Contains-append_left run.sent (went ∷ []) f h, λ f h. Contains-append_left run.came (frame ∷ []) f h) in
-      let first : WasAsked keys run task flight.request false = subst (λ (b : Bool). WasAsked keys run task flight.request b) once (was_waiting run flights flight rest taken r.waiting) in
-      let asked : Contains run.sent (frame_octets 0 flight.request task.request.octets) = subst (Contains run.sent) first.2 first.1 in
+      let first : WasAsked keys run task pending.request false = subst (λ (b : Bool). WasAsked keys run task pending.request b) once (was_waiting run in_flight pending rest taken r.waiting) in
+      let asked : Contains run.sent (frame_octets 0 pending.request task.request.octets) = subst (Contains run.sent) first.2 first.1 in
       let answers : AsksFor keys after task number true went = record {
-        first = flight.request;
-        asked = part.0 (frame_octets 0 flight.request task.request.octets) asked;
+        first = pending.request;
+        asked = part.0 (frame_octets 0 pending.request task.request.octets) asked;
         challenge = frame;
         parts = reply;
         challenged = record { came = Contains-push run.came frame; own = own; read = read };
@@ -280,11 +280,11 @@ module _ {T O : Type 0} (g : Ghosts T) (notes : O → Task → ℕ → O → Typ
       let own_task : WasAsked keys after next.task.now number true = subst (λ (t : Task). WasAsked keys after t number true) (sym l.own) own_first in
       let own_flight : IsWaiting keys after next = subst (λ (b : Bool). WasAsked keys after next.task.now number b) (sym l.kind) own_task in
       let waiting : All (IsWaiting keys after) (rest ++ next ∷ []) = All-append (IsWaiting keys after) rest (next ∷ [])
-      (still_waiting run after part flights flight rest taken r.waiting)
+      (still_waiting run after part in_flight pending rest taken r.waiting)
       (All-cons (IsWaiting keys after) next [] own_flight (All-nil (IsWaiting keys after))) in
-      let done : List Task = map told_task run.told in
-      let left : List Task = map task_of flights in
-      let turned : IsPermutation left (map task_of rest ++ task ∷ []) = IsPermutation-trans left (task ∷ map task_of rest) (map task_of rest ++ task ∷ []) (parted flights flight rest taken)
+      let done : List Task = map outcome_task run.told in
+      let left : List Task = map task_of in_flight in
+      let turned : IsPermutation left (map task_of rest ++ task ∷ []) = IsPermutation-trans left (task ∷ map task_of rest) (map task_of rest ++ task ∷ []) (parted in_flight pending rest taken)
       (IsPermutation-sym (map task_of rest ++ task ∷ []) (task ∷ map task_of rest) (IsPermutation-to_front (map task_of rest) task)) in
       let all : IsPermutation tasks (done ++ (map task_of rest ++ task ∷ [])) = IsPermutation-trans tasks (done ++ left) (done ++ (map task_of rest ++ task ∷ [])) r.each (IsPermutation-append_right done left (map task_of rest ++ task ∷ []) turned) in
       let tail : map task_of (rest ++ next ∷ []) ≡ map task_of rest ++ task ∷ [] = map-append task_of rest (next ∷ []) ∙ ap (λ (t : Task). map task_of rest ++ t ∷ []) l.own in
@@ -298,7 +298,7 @@ module _ {T O : Type 0} (g : Ghosts T) (notes : O → Task → ℕ → O → Typ
         received = kept_after (g.received start) (g.received mid) (g.received new) (concat (run.came ++ frame ∷ [])) (frame_more (g.received start) (g.received stream) (g.received mid) run.came frame r.received came) l.received;
         told = r.told;
         each = subst (λ (l : List Task). IsPermutation tasks (done ++ l)) (sym tail) all;
-        right = each (IsToldRight keys run) (IsToldRight keys after) run.told (right_on keys run after part) r.right;
+        right = each (IsOutcomeRight keys run) (IsOutcomeRight keys after) run.told (right_on keys run after part) r.right;
         waiting = waiting;
         proper = proper;
       } in

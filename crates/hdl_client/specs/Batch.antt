@@ -5,9 +5,9 @@ use Rattle.hdl_msg.specs.Reply.{ReplyParts}
 use Rattle.hdl_client.specs.About.{IsAnswerTo}
 use Rattle.hdl_client.specs.Asking.{IsUnchallenged}
 use Rattle.hdl_client.specs.Challenge.{Answers}
-use Rattle.hdl_client.specs.declared.batch.Flight.{Flight}
-use Rattle.hdl_client.specs.declared.batch.Landing.{Landing}
-use Rattle.hdl_client.specs.declared.batch.Landing.TheVariants.{Done, Challenge}
+use Rattle.hdl_client.specs.declared.batch.PendingRequest.{PendingRequest}
+use Rattle.hdl_client.specs.declared.batch.ReplyAction.{ReplyAction}
+use Rattle.hdl_client.specs.declared.batch.ReplyAction.TheVariants.{Done, Challenge}
 use Rattle.hdl_client.specs.declared.challenge.Key.{Key}
 use Rattle.hdl_client.specs.declared.task.Task.{Task}
 
@@ -16,22 +16,22 @@ abbrev pub OrderMatters : Task → Task → Type 0
 OrderMatters one other = (one.request.is_alone ≡ true) ⊎ (other.request.is_alone ≡ true) ⊎ (one.request.handle ≡ other.request.handle)
 
 -- the order of the task in flight and this one doesn't matter
-abbrev pub IsApart : Task → Flight → Type 0
-IsApart task flight = ¬ (OrderMatters flight.task.now task)
+abbrev pub IsApart : Task → PendingRequest → Type 0
+IsApart task pending = ¬ (OrderMatters pending.task.now task)
 
 -- of no two of these tasks in flight does the order matter
-abbrev pub AreApart : List Flight → Type 0
+abbrev pub AreApart : List PendingRequest → Type 0
 AreApart [] = ⊤
-AreApart (flight ∷ others) = All (IsApart flight.task.now) others × AreApart others
+AreApart (pending ∷ others) = All (IsApart pending.task.now) others × AreApart others
 
 -- how many frames may still come for one in flight: the reply, and before it a challenge that wasn't answered yet
 abbrev pub frames_for : Bool → ℕ
 frames_for true = 1
 frames_for false = 2
 
-abbrev pub frames_due : List Flight → ℕ
-frames_due [] = 0
-frames_due (flight ∷ others) = frames_for flight.is_answer + frames_due others
+abbrev pub frames_awaited : List PendingRequest → ℕ
+frames_awaited [] = 0
+frames_awaited (pending ∷ others) = frames_for pending.is_answer + frames_awaited others
 
 -- the key that a task names among those of its batch
 abbrev pub key_of : List Key → Task → Option Key
@@ -48,6 +48,6 @@ pub record IsOutcome (keys : List Key) (task : Task) (has_answered : Bool) (repl
   pub last : has_answered ≡ false → IfSome (key_of keys task) (λ _. IsUnchallenged reply)
 
 -- a reply in flight is its task's outcome, or a challenge, which is answered once, by the key that the task names
-abbrev pub Lands : List Key → Flight → ReplyParts → Landing → Type 0
-Lands keys flight reply (Done code) = IsOutcome keys flight.task.now flight.is_answer reply code
-Lands keys flight reply (Challenge answer) = (flight.is_answer ≡ false) × AnswersFor keys flight.task.now reply answer.items
+abbrev pub Classifies : List Key → PendingRequest → ReplyParts → ReplyAction → Type 0
+Classifies keys pending reply (Done code) = IsOutcome keys pending.task.now pending.is_answer reply code
+Classifies keys pending reply (Challenge answer) = (pending.is_answer ≡ false) × AnswersFor keys pending.task.now reply answer.items

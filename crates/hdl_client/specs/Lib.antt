@@ -6,4 +6,4 @@ pub mod Exchange
 pub mod Reply
 pub mod Challenge
 pub mod RequestMessage
-pub mod Told
+pub mod Outcomes

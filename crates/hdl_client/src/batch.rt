@@ -3,8 +3,8 @@
 ghost use Rattle.std.specs.Prelude.{◌≡◌, ◌↔◌, ◌<◌, [], false, IsTrue, All, IfOk, OnOk, IfSome, MatchOption, option_copied};
 ghost use Rattle.hdl_msg.specs.Reply.{reply_seen};
 ghost use Rattle.hdl_client.specs.Asking.{IsUnchallenged};
-ghost use Rattle.hdl_client.specs.Batch.{OrderMatters, IsApart, AreApart, frames_due, key_of, AnswersFor, Lands};
-ghost use Rattle.hdl_client.specs.Told.{IsTaken, IsLaunched, GoesOn, IsWhole};
+ghost use Rattle.hdl_client.specs.Batch.{OrderMatters, IsApart, AreApart, frames_awaited, key_of, AnswersFor, Classifies};
+ghost use Rattle.hdl_client.specs.Outcomes.{IsTaken, IsSentFor, GoesOn, IsWhole};
 
 use crate::about::check_answer;
 use crate::challenge::{Key, challenge_answer};
@@ -20,7 +20,7 @@ use std::alloc::Global;
 
 /// A request that waits for its reply: its task, the RequestId of what was sent last for it, and whether that answers a challenge.
 #[derive(Clone, Copy)]
-struct Flight<'b> {
+struct PendingRequest<'b> {
     task: &'b Task,
     request: u32,
     is_answer: bool,
@@ -36,12 +36,12 @@ fn order_matters(one: &Task, other: &Task) -> bool
 }
 
 /// Whether a task may fly with those in flight: with none of them its order matters.
-fn may_fly(next: &Task, flights: &[Flight<'_>]) -> bool
-    ensures { IsTrue result ↔ All (IsApart next.now) flights.now }
+fn may_send(next: &Task, in_flight: &[PendingRequest<'_>]) -> bool
+    ensures { IsTrue result ↔ All (IsApart next.now) in_flight.now }
 {
-    flights
+    in_flight
         .iter()
-        .all(|flight| !order_matters(flight.task, next))
+        .all(|pending| !order_matters(pending.task, next))
 }
 
 /// The key that stands above a task in the batch's text, if one does.
@@ -54,7 +54,7 @@ fn key_of<'b>(keys: &'b [Key], task: &Task) -> Option<&'b Key>
 
 /// What a frame that came is to a flight.
 #[derive(Drop)]
-enum Landing {
+enum ReplyAction {
     /// The reply, with this code.
     Done(u32),
     /// A challenge, and the message that answers it.
@@ -65,70 +65,76 @@ enum Landing {
 fn answer_by_key(
     alloc: Global,
     keys: &[Key],
-    flight: &Flight<'_>,
+    pending: &PendingRequest<'_>,
     reply: &ReplyView<'_>,
 ) -> Result<Option<Vec<u8>>, ClientFault>
     ensures { IfOk result (λ r. MatchOption r
-        (flight.now.is_answer ≡ false → IfSome (key_of keys.now flight.now.task.now) (λ _. IsUnchallenged (reply_seen reply.now)))
-        (λ v. (flight.now.is_answer ≡ false) × AnswersFor keys.now flight.now.task.now (reply_seen reply.now) v.items)) }
+        (pending.now.is_answer ≡ false → IfSome (key_of keys.now pending.now.task.now) (λ _. IsUnchallenged (reply_seen reply.now)))
+        (λ v. (pending.now.is_answer ≡ false) × AnswersFor keys.now pending.now.task.now (reply_seen reply.now) v.items)) }
 {
-    if flight.is_answer {
+    if pending.is_answer {
         return Ok(None);
     }
-    match key_of(keys, flight.task) {
-        Some(key) => challenge_answer(alloc, key, flight.task.request.octets(), reply),
+    match key_of(keys, pending.task) {
+        Some(key) => challenge_answer(alloc, key, pending.task.request.octets(), reply),
         None => Ok(None),
     }
 }
 
 /// What a reply is to the flight that it answers. One that isn't a challenge to be answered has to be about what the task asks.
-fn land_reply(
+fn classify_reply(
     alloc: Global,
     keys: &[Key],
-    flight: &Flight<'_>,
+    pending: &PendingRequest<'_>,
     reply: &ReplyView<'_>,
-) -> Result<Landing, ClientFault>
-    ensures { IfOk result (λ landing. Lands keys.now flight.now (reply_seen reply.now) landing) }
+) -> Result<ReplyAction, ClientFault>
+    ensures { IfOk result (λ landing. Classifies keys.now pending.now (reply_seen reply.now) landing) }
 {
-    if let Some(answer) = answer_by_key(alloc, keys, flight, reply)? {
-        return Ok(Landing::Challenge(answer));
+    if let Some(answer) = answer_by_key(alloc, keys, pending, reply)? {
+        return Ok(ReplyAction::Challenge(answer));
     }
-    let request = &flight.task.request;
+    let request = &pending.task.request;
     check_answer(alloc, request.wire(), request.octets(), reply)?;
-    Ok(Landing::Done(reply.header.response_code))
+    Ok(ReplyAction::Done(reply.header.response_code))
 }
 
 /// Takes the flight of the request with this number out of those under way.
-fn take_flight<'b>(flights: &mut Vec<Flight<'b>>, request: u32) -> Result<Flight<'b>, ClientFault>
-    requires { AreApart flights.old.items }
-    ensures apart { AreApart flights.new.items }
-    ensures free { IfOk result (λ flight. All (IsApart flight.task.now) flights.new.items) }
-    ensures taken { IfOk result (λ flight. IsTaken flights.old.items flight flights.new.items) }
-    ensures own { IfOk result (λ flight. flight.request ≡ request) }
+fn take_pending<'b>(
+    in_flight: &mut Vec<PendingRequest<'b>>,
+    request: u32,
+) -> Result<PendingRequest<'b>, ClientFault>
+    requires { AreApart in_flight.old.items }
+    ensures apart { AreApart in_flight.new.items }
+    ensures free { IfOk result (λ pending. All (IsApart pending.task.now) in_flight.new.items) }
+    ensures taken { IfOk result (λ pending. IsTaken in_flight.old.items pending in_flight.new.items) }
+    ensures own { IfOk result (λ pending. pending.request ≡ request) }
 {
-    match flights.iter().position(|flight| flight.request == request) {
-        Some(place) => Ok(flights.remove(place)),
+    match in_flight
+        .iter()
+        .position(|pending| pending.request == request)
+    {
+        Some(place) => Ok(in_flight.remove(place)),
         None => Err(ClientFault::OtherRequest),
     }
 }
 
 impl<S: Transport> Session<S> {
     /// Sends a message for a task, which is under way then.
-    fn launch<'b>(
+    fn send_task<'b>(
         &mut self,
-        flights: &mut Vec<Flight<'b>>,
+        in_flight: &mut Vec<PendingRequest<'b>>,
         task: &'b Task,
         session: u32,
         message: &[u8],
         is_answer: bool,
     ) -> Result<(), ClientFault>
-        requires apart { AreApart flights.old.items }
-        requires free { All (IsApart task.now) flights.old.items }
-        ensures apart { AreApart flights.new.items }
-        ensures launched { OnOk result (IsLaunched S.Transport self.old.stream flights.old.items task.now session message.now is_answer self.new.stream flights.new.items) }
+        requires apart { AreApart in_flight.old.items }
+        requires free { All (IsApart task.now) in_flight.old.items }
+        ensures apart { AreApart in_flight.new.items }
+        ensures launched { OnOk result (IsSentFor S.Transport self.old.stream in_flight.old.items task.now session message.now is_answer self.new.stream in_flight.new.items) }
     {
         let request = self.send_next(session, message)?;
-        flights.push(Flight {
+        in_flight.push(PendingRequest {
             task,
             request,
             is_answer,
@@ -137,66 +143,66 @@ impl<S: Transport> Session<S> {
     }
 
     /// Takes one frame, and answers the challenge or tells the outcome.
-    fn land<'b, O: Outcomes>(
+    fn receive_one<'b, O: Outcomes>(
         &mut self,
         keys: &[Key],
-        flights: &mut Vec<Flight<'b>>,
+        in_flight: &mut Vec<PendingRequest<'b>>,
         outcomes: &mut O,
     ) -> Result<(), ClientFault>
-        requires { AreApart flights.old.items }
-        ensures apart { AreApart flights.new.items }
-        ensures goes_on { OnOk result (GoesOn S.Transport O.notes keys.now self.old.stream outcomes.old flights.old.items self.new.stream outcomes.new flights.new.items) }
-        ensures due { OnOk result (frames_due flights.new.items < frames_due flights.old.items) }
+        requires { AreApart in_flight.old.items }
+        ensures apart { AreApart in_flight.new.items }
+        ensures goes_on { OnOk result (GoesOn S.Transport O.notes keys.now self.old.stream outcomes.old in_flight.old.items self.new.stream outcomes.new in_flight.new.items) }
+        ensures due { OnOk result (frames_awaited in_flight.new.items < frames_awaited in_flight.old.items) }
     {
         let frame = receive(self.alloc, &mut self.stream)?;
-        let flight = take_flight(flights, frame.envelope.request)?;
-        let reply = Reply::of_frame(flight.task.request.wire(), frame, flight.request)?;
+        let pending = take_pending(in_flight, frame.envelope.request)?;
+        let reply = Reply::of_frame(pending.task.request.wire(), frame, pending.request)?;
         let view = reply.view();
-        match land_reply(self.alloc, keys, &flight, &view)? {
-            Landing::Done(code) => {
-                outcomes.note_reply(flight.task, code, &view);
+        match classify_reply(self.alloc, keys, &pending, &view)? {
+            ReplyAction::Done(code) => {
+                outcomes.note_reply(pending.task, code, &view);
                 Ok(())
             }
-            Landing::Challenge(answer) => {
+            ReplyAction::Challenge(answer) => {
                 let session = reply.envelope().session;
-                self.launch(flights, flight.task, session, &answer, true)?;
+                self.send_task(in_flight, pending.task, session, &answer, true)?;
                 Ok(())
             }
         }
     }
 
     /// Takes replies until the task may fly with those that are in flight then, and there is room for it: a service keeps so many challenges.
-    fn make_way<'b, O: Outcomes>(
+    fn wait_for_room<'b, O: Outcomes>(
         &mut self,
         keys: &[Key],
-        flights: &mut Vec<Flight<'b>>,
+        in_flight: &mut Vec<PendingRequest<'b>>,
         outcomes: &mut O,
         task: &Task,
     ) -> Result<(), ClientFault>
-        requires { AreApart flights.old.items }
-        ensures apart { AreApart flights.new.items }
-        ensures free { OnOk result (All (IsApart task.now) flights.new.items) }
-        ensures goes_on { OnOk result (GoesOn S.Transport O.notes keys.now self.old.stream outcomes.old flights.old.items self.new.stream outcomes.new flights.new.items) }
+        requires { AreApart in_flight.old.items }
+        ensures apart { AreApart in_flight.new.items }
+        ensures free { OnOk result (All (IsApart task.now) in_flight.new.items) }
+        ensures goes_on { OnOk result (GoesOn S.Transport O.notes keys.now self.old.stream outcomes.old in_flight.old.items self.new.stream outcomes.new in_flight.new.items) }
     {
-        'replies: while flights.len() >= CHALLENGES_MAX || !may_fly(task, flights) {
-            self.land(keys, flights, outcomes)?;
+        'replies: while in_flight.len() >= CHALLENGES_MAX || !may_send(task, in_flight) {
+            self.receive_one(keys, in_flight, outcomes)?;
         }
         Ok(())
     }
 
     /// Takes the replies to all that are in flight.
-    fn land_all<'b, O: Outcomes>(
+    fn receive_all<'b, O: Outcomes>(
         &mut self,
         keys: &[Key],
-        flights: &mut Vec<Flight<'b>>,
+        in_flight: &mut Vec<PendingRequest<'b>>,
         outcomes: &mut O,
     ) -> Result<(), ClientFault>
-        requires { AreApart flights.old.items }
-        ensures none { OnOk result (flights.new.items ≡ []) }
-        ensures goes_on { OnOk result (GoesOn S.Transport O.notes keys.now self.old.stream outcomes.old flights.old.items self.new.stream outcomes.new flights.new.items) }
+        requires { AreApart in_flight.old.items }
+        ensures none { OnOk result (in_flight.new.items ≡ []) }
+        ensures goes_on { OnOk result (GoesOn S.Transport O.notes keys.now self.old.stream outcomes.old in_flight.old.items self.new.stream outcomes.new in_flight.new.items) }
     {
-        'replies: while !flights.is_empty() {
-            self.land(keys, flights, outcomes)?;
+        'replies: while !in_flight.is_empty() {
+            self.receive_one(keys, in_flight, outcomes)?;
         }
         Ok(())
     }
@@ -211,13 +217,13 @@ impl<S: Transport> Session<S> {
     ) -> Result<(), ClientFault>
         ensures whole { OnOk result (IsWhole S.Transport O.notes batch.now.keys.items batch.now.tasks.items self.old.stream outcomes.old self.new.stream outcomes.new) }
     {
-        let mut flights = Vec::with_capacity(self.alloc, CHALLENGES_MAX)?;
+        let mut in_flight = Vec::with_capacity(self.alloc, CHALLENGES_MAX)?;
         for place in 0..batch.tasks.len() {
             let task = &batch.tasks[place];
-            self.make_way(&batch.keys, &mut flights, outcomes, task)?;
-            self.launch(&mut flights, task, 0, task.request.octets(), false)?;
+            self.wait_for_room(&batch.keys, &mut in_flight, outcomes, task)?;
+            self.send_task(&mut in_flight, task, 0, task.request.octets(), false)?;
         }
-        self.land_all(&batch.keys, &mut flights, outcomes)?;
+        self.receive_all(&batch.keys, &mut in_flight, outcomes)?;
         Ok(())
     }
 }

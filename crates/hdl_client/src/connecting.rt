@@ -11,7 +11,7 @@ use std::net::{HostAddrs, SocketAddr, TcpStream, ToSocketAddrs};
 use std::time::{Duration, Instant};
 
 /// How many seconds a connection, the sending of a request, and its whole answer may take each.
-const PATIENCE: u64 = 10;
+const TIMEOUT_SECONDS: u64 = 10;
 
 /// A connection that gives each request a time to be sent, and as much again for its whole answer, however it comes in parts. In a
 /// batch an answer's time begins with the last request that was sent. Or it gives both together one time ([`connect_within`]).
@@ -45,7 +45,7 @@ impl Connection {
         Ok(Connection {
             rt,
             stream,
-            limit: Duration::from_secs(PATIENCE),
+            limit: Duration::from_secs(TIMEOUT_SECONDS),
             is_patient: true,
             since,
             has_read: false,
@@ -159,7 +159,7 @@ pub fn connect(rt: &HostRuntime, server: &str) -> Result<Session<Connection>, Cl
 {
     let mut last = ConnectFault::UnknownName;
     for address in addresses_of(rt, server)? {
-        match stream_to(rt, &address, Ok(Duration::from_secs(PATIENCE))) {
+        match stream_to(rt, &address, Ok(Duration::from_secs(TIMEOUT_SECONDS))) {
             Ok(stream) => return Ok(Session::new(rt.alloc(), Connection::new(*rt, stream)?)),
             Err(fault) => last = fault,
         }

@@ -73,7 +73,7 @@ impl<S: Transport> Session<S> {
     }
 
     /// The reply to the answer to a challenge by this key, where there is one and the reply that came is a challenge; else that reply.
-    fn behind_challenge(
+    fn after_challenge(
         &mut self,
         wire: Wire,
         key: Option<&Key>,
@@ -107,7 +107,7 @@ impl<S: Transport> Session<S> {
     {
         let message = request_message(self.alloc, wire, body)?;
         let first = self.exchange_within(wire, 0, &message)?;
-        let reply = self.behind_challenge(wire, key, &message, first)?;
+        let reply = self.after_challenge(wire, key, &message, first)?;
         let reply = reply.about(self.alloc, &message)?;
         Ok(reply)
     }

@@ -6,7 +6,7 @@ use Rattle.std.specs.List.{FoldsTo, filter}
 use Rattle.std.proofs.lemmas.Bool.{lt-ltb, cond-true, cond-false}
 use Rattle.std.proofs.lemmas.List.{at_drop_more, map-append}
 use Rattle.std.proofs.lemmas.List.Elements.{All-nil, All-cons, All-head, All-tail, Contains-append_left, Contains-push}
-use Rattle.hdl_client.specs.Told.{Outcome, IsWhole}
+use Rattle.hdl_client.specs.Outcomes.{Outcome, IsWhole}
 use Rattle.hdl_client.specs.declared.challenge.Key.{Key}
 use Rattle.hdl_client.specs.declared.task.Task.{Task}
 use Rattle.hdl_client.specs.declared.transport.Transport.{Ghosts}

@@ -1,7 +1,7 @@
 -- A batch of readings sends nothing but readings, and answers to their challenges.
 use Rattle.std.proofs.Common.{◌≡◌, ℕ, List, [], ◌∷◌, ◌++◌, All}
 use Rattle.std.proofs.lemmas.List.Elements.{All-push}
-use Rattle.hdl_client.specs.Told.{IsWhole}
+use Rattle.hdl_client.specs.Outcomes.{IsWhole}
 use Rattle.hdl_client.specs.declared.challenge.Key.{Key}
 use Rattle.hdl_client.specs.declared.task.Task.{Task}
 use Rattle.hdl_client.specs.declared.transport.Transport.{Ghosts}

@@ -3,7 +3,7 @@ use Rattle.std.specs.Prelude.{◌≡◌, ◌==◌, ◌⊎◌, ⊤, ℕ, Bool, Li
 use Rattle.std.specs.List.{filter, list_any}
 use Rattle.hdl_msg.specs.declared.codes.ResponseCode.TheVariants.{Success}
 use Rattle.hdl_msg.specs.Codes.{response_number}
-use Rattle.hdl_client.specs.Told.{Outcome, Run, IsRun}
+use Rattle.hdl_client.specs.Outcomes.{Outcome, Run, IsRun}
 use Rattle.hdl_client.specs.declared.challenge.Key.{Key}
 use Rattle.hdl_client.specs.declared.task.Task.{Task}
 use Rattle.hdl_client.specs.declared.transport.Transport.{Ghosts}

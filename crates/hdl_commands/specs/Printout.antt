@@ -1,6 +1,6 @@
 -- A page: lines for people to read.
 use Rattle.std.specs.Prelude.{ℕ, Bool, List, [], ◌∷◌, ◌++◌}
-use Rattle.hdl_lines.specs.Printed.{printed_octets}
+use Rattle.hdl_value_lines.specs.Printed.{printed_octets}
 
 -- its lines so far, and whether the data of keys is shown in them
 pub record PageText : Type 0 where

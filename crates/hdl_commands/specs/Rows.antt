@@ -17,10 +17,10 @@ use Rattle.hdl_value.specs.Spelling.{reference}
 use Rattle.hdl_msg.specs.declared.request_body.RequestBody.TheVariants.{Create}
 use Rattle.hdl_msg.specs.RequestBody.{request_message}
 use Rattle.hdl_client.specs.Challenge.{plain_header}
-use Rattle.hdl_lines.specs.declared.fault.LineFault.{LineFault}
-use Rattle.hdl_lines.specs.declared.fault.LineFault.TheVariants as fault
-use Rattle.hdl_lines.specs.Fields.{number_in, permissions_in}
-use Rattle.hdl_lines.specs.Lines.{◌>>=◌, value_of, value_by_type}
+use Rattle.hdl_value_lines.specs.declared.fault.LineFault.{LineFault}
+use Rattle.hdl_value_lines.specs.declared.fault.LineFault.TheVariants as fault
+use Rattle.hdl_value_lines.specs.Fields.{number_in, permissions_in}
+use Rattle.hdl_value_lines.specs.Lines.{◌>>=◌, value_of, value_by_type}
 use Rattle.hdl_commands.specs.declared.imports.columns.Columns.{Columns}
 
 -- the fields of a line of CSV (RFC 4180) with this octet between them, a byte order mark aside

@@ -8,7 +8,7 @@ use Rattle.hdl_value.specs.declared.wire.Wire.{Wire}
 use Rattle.hdl_msg.specs.declared.request_body.RequestBody.TheVariants.{Resolution}
 use Rattle.hdl_msg.specs.RequestBody.{request_message}
 use Rattle.hdl_client.specs.Challenge.{plain_header}
-use Rattle.hdl_client.specs.Told.{Run, AsksForOne}
+use Rattle.hdl_client.specs.Outcomes.{Run, AsksForOne}
 use Rattle.hdl_client.specs.declared.challenge.Key.{Key}
 use Rattle.hdl_client.specs.declared.task.Task.{Task}
 use Rattle.hdl_client.specs.declared.transport.Transport.{Ghosts}

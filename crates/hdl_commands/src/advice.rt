@@ -2,8 +2,8 @@
 
 use crate::request::takes_values;
 use hdl_client::Task;
-use hdl_lines::{cut_at, printed_octets};
 use hdl_msg::{Body, OpCode, ResponseCode, read_request};
+use hdl_value_lines::{cut_at, printed_octets};
 use std::alloc::{AllocError, Global};
 
 /// How a command is given its keys.

@@ -8,9 +8,9 @@ use crate::request::{RequestDetails, is_administrator, request_of, takes_values}
 use crate::words::{Printout, code_name, push_reply, push_short_reply};
 use hdl_client::{ClientFault, Key, Reply, connect};
 use hdl_frame::Envelope;
-use hdl_lines::printed_octets;
 use hdl_msg::{OpCode, ReplyView, RequestBody, ResponseCode};
 use hdl_value::Wire;
+use hdl_value_lines::printed_octets;
 use std::alloc::{AllocError, Global};
 use std::io;
 use thiserror::Error;

@@ -257,7 +257,7 @@ impl Reader<'_> {
 ///
 /// ```text
 /// AUTHENTICATE SECKEY:300:0.NA/10        the key of all that follows; the next line is its secret
-/// CREATE 10/a                            and a line for each value (hdl_lines); likewise ADD and MODIFY
+/// CREATE 10/a                            and a line for each value (hdl_value_lines); likewise ADD and MODIFY
 /// DELETE 10/a
 /// REMOVE 3,4:10/a                        the values with these indexes
 /// ```

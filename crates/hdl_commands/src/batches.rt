@@ -10,9 +10,9 @@ use crate::batch_text::{Layouts, read_batch};
 use crate::reporting::report_fault;
 use crate::words::code_name;
 use hdl_client::{Batch, ClientFault, Outcomes, Session, Task, Transport, connect};
-use hdl_lines::printed_octets;
 use hdl_msg::{ReplyView, ResponseCode};
 use hdl_value::Wire;
+use hdl_value_lines::printed_octets;
 use std::io::IsTerminal;
 
 /// Prints what comes, and counts it.

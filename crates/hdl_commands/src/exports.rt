@@ -6,8 +6,8 @@ ghost use Rattle.hdl_commands.specs.declared.exports.Exported.TheVariants as exp
 
 use crate::imports::{HEADER, row_of};
 use crate::words::line_of;
-use hdl_lines::{cut_at, printed_octets};
 use hdl_value::{Value, cut_value};
+use hdl_value_lines::{cut_at, printed_octets};
 use std::alloc::{AllocError, Global};
 use std::io::{self, BufRead, BufReader, BufWriter, Write};
 

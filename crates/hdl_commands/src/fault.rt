@@ -2,8 +2,8 @@
 
 use hdl_client::ClientFault;
 use hdl_limits::{MESSAGE_MAX, WRITTEN_MAX};
-use hdl_lines::LineFault;
 use hdl_name::NameFault;
+use hdl_value_lines::LineFault;
 use std::alloc::{AllocError, AllocFailed};
 use thiserror::Error;
 

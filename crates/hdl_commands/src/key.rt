@@ -3,8 +3,8 @@
 use crate::fault::ArgumentFault;
 use hdl_client::Key;
 use hdl_limits::Octets;
-use hdl_lines::read_reference;
 use hdl_value::RawRef;
+use hdl_value_lines::read_reference;
 use std::alloc::Global;
 use std::env;
 use std::io::IsTerminal;

@@ -14,7 +14,7 @@
 //! ```
 //!
 //! Requests are read from words and written by `hdl_msg`'s `write_request`, so what is sent is in the grammar; a value's words are
-//! those of `hdl_lines`. Promised is that everything here is total, that a line of a [`Printout`] has no control character, that the
+//! those of `hdl_value_lines`. Promised is that everything here is total, that a line of a [`Printout`] has no control character, that the
 //! line of a hidden key is a function of its index and the length of its data, and that a handle is imported with just the values that
 //! its rows say (`specs/Rows.antt`), that after an update what the rows name is there and all else as it was (`specs/Update.antt`), that a
 //! replacement changes the data of URLs alone, that a row that is written is read as its value (`specs/Replace.antt`), and that a batch's

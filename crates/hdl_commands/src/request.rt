@@ -5,9 +5,9 @@ ghost use Rattle.hdl_value.specs.Spelling.{CanBeSpelt};
 
 use crate::fault::ArgumentFault;
 use hdl_limits::{Items, Octets};
-use hdl_lines::{LineFault, index_in, read_value_line};
 use hdl_msg::{OpCode, RequestBody};
 use hdl_value::{Value, ValueFault};
+use hdl_value_lines::{LineFault, index_in, read_value_line};
 use std::alloc::{AllocError, Global};
 
 /// Whether values go with an operation.

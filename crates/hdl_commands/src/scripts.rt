@@ -7,11 +7,11 @@ use hdl_auth::algorithm::Algorithm;
 use hdl_auth::digest;
 use hdl_client::{Batch, Key, Task, challenge_response, frame_of, signed_part};
 use hdl_limits::MESSAGE_MAX;
-use hdl_lines::printed_octets;
 use hdl_msg::{Body, read_request};
 use hdl_name::Name;
 use hdl_tenants::{TenantFault, Tenants};
 use hdl_value::Wire;
+use hdl_value_lines::printed_octets;
 use std::alloc::{AllocError, Global};
 use thiserror::Error;
 

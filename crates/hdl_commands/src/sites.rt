@@ -10,13 +10,13 @@ use crate::reporting::report_fault;
 use crate::words::{Printout, code_name};
 use hdl_client::{ClientFault, Reply, connect};
 use hdl_limits::Octets;
-use hdl_lines::printed_octets;
 use hdl_msg::{ContentView, ResponseCode};
 use hdl_site::{
     ADMINISTRATION, Attribute, BOTH, HTTP, Interface, PRIMARY, QUERY, SEVERAL_PRIMARIES,
     ServerPlan, SiteInfo, SiteServer, TCP, UDP, address_octets, planned_octets, read_site,
 };
 use hdl_tenants::decimal_u16;
+use hdl_value_lines::printed_octets;
 use std::alloc::{AllocError, AllocFailed, Global};
 use std::net::{IpAddr, Ipv4Addr, Ipv6Addr};
 use std::{fs, io};

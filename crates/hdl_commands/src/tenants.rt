@@ -47,7 +47,7 @@ pub fn tenants_faults(alloc: Global, text: &str) -> Result<Vec<BatchFault>, Allo
     Ok(faults)
 }
 
-/// The tenants text whose values stand in words: a line `value HANDLE WORDS` with the words of a value (`hdl_lines`) gets the value's
+/// The tenants text whose values stand in words: a line `value HANDLE WORDS` with the words of a value (`hdl_value_lines`) gets the value's
 /// octets in hexadecimal digits, with timestamp 0; every other line stays. The fault names the first value that can't be read.
 pub fn write_tenants(alloc: Global, text: &str) -> Result<String, BatchFault> {
     let mut out = String::new(alloc);

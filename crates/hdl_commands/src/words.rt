@@ -4,7 +4,7 @@
 //! octets of a frame -> one_datagram -> read_request or read_reply -> Page: lines that begin with `;;`, and a line for each value
 //! ```
 //!
-//! A value is the line that `hdl_lines` shows of it, which reads back as the value, or of a hidden key says how many octets its data
+//! A value is the line that `hdl_value_lines` shows of it, which reads back as the value, or of a hidden key says how many octets its data
 //! has. Octets that are in no grammar are said to be so. No line has a control character, whatever stands in handles, types and text.
 
 mod line;

@@ -11,7 +11,7 @@ use Rattle.hdl_msg.specs.Reply.{short_reply}
 use Rattle.hdl_pool.specs.declared.piece.MessageKey.{MessageKey}
 use Rattle.hdl_pool.specs.Partial.{Partial, key_of, piece_of, is_of}
 use Rattle.hdl_pool.specs.Taking.{Fate, made_whole, kept, ignored, displaced, so_far, after_piece, replace_partial, store_partial, begin_partial, store_if_kept, take_piece, whole_message, free_partial}
-use Rattle.hdl_laws.specs.Speech.{Speech}
+use Rattle.hdl_laws.specs.LaneProfile.{LaneProfile}
 use Rattle.hdl_rows.specs.Table.{Table}
 use Rattle.hdl_ops.specs.Admission.{request_algorithm}
 use Rattle.hdl_ops.specs.Decisions.{Decision, failure, site_decision}
@@ -26,16 +26,16 @@ use Rattle.hdl_laws.specs.Tasks.{Received, Task, Ignore, Malformed, Unknown, Lat
 use Rattle.hdl_laws.specs.Effects.{Effect, answer_effect, challenge_effect, ask_effect, Does}
 use Rattle.hdl_core.specs.declared.origin.Origin.{Origin}
 use Rattle.hdl_core.specs.Held.{Held, held_at, state_at, with_state}
-use Rattle.hdl_core.specs.Serving.{Context, Scene, received_as, message_as, HearsAt, AssemblesAt}
+use Rattle.hdl_core.specs.Serving.{Context, Scene, received_as, message_as, HandlesMessageAt, AssemblesAt}
 use Rattle.hdl_core.proofs.HeldLanes as held_lanes
 use Rattle.hdl_ops.specs.Tables.{apply_if}
 
 -- ---- a lane whose partial messages are others hears a message as it did
 
 -- the same on a lane with these partial messages
-record Moved (speech : Speech) (hosts : List ℕ → Bool) (algorithms : List ℕ → Algorithm) (t : Table) (s : LaneState) (p : List Partial) (m : tasks.Message) (eff : Effect) : Type 0 where
+record Moved (lane_profile : LaneProfile) (hosts : List ℕ → Bool) (algorithms : List ℕ → Algorithm) (t : Table) (s : LaneState) (p : List Partial) (m : tasks.Message) (eff : Effect) : Type 0 where
   task : Task
-  is_task : IsMessageTask speech (with_partials s p) m task
+  is_task : IsMessageTask lane_profile (with_partials s p) m task
   effect : Effect
   does : Does hosts algorithms t task effect
   outcome : effect.outcome ≡ eff.outcome
@@ -43,11 +43,11 @@ record Moved (speech : Speech) (hosts : List ℕ → Bool) (algorithms : List �
   change : effect.change ≡ eff.change
   same : eff.state.partials ≡ s.partials
 
-module _ (speech : Speech) (hosts : List ℕ → Bool) (algorithms : List ℕ → Algorithm) (t : Table) (s : LaneState) (p : List Partial) (m : tasks.Message) where
-  garbled : (o : Option Content) → IsReading (SpellsRequest speech.wire m.message) o → o ≡ None → (eff : Effect) → Does hosts algorithms t (Malformed m s) eff → Moved speech hosts algorithms t s p m eff
+module _ (lane_profile : LaneProfile) (hosts : List ℕ → Bool) (algorithms : List ℕ → Algorithm) (t : Table) (s : LaneState) (p : List Partial) (m : tasks.Message) where
+  garbled : (o : Option Content) → IsReading (SpellsRequest lane_profile.wire m.message) o → o ≡ None → (eff : Effect) → Does hosts algorithms t (Malformed m s) eff → Moved lane_profile hosts algorithms t s p m eff
   garbled o reading is eff does = record {
     task = Malformed m (with_partials s p);
-    is_task = (o, reading, subst (λ x. IsContentTask speech (with_partials s p) m x (Malformed m (with_partials s p))) (sym is) refl);
+    is_task = (o, reading, subst (λ x. IsContentTask lane_profile (with_partials s p) m x (Malformed m (with_partials s p))) (sym is) refl);
     effect = record { outcome = Reply (short_reply 4 m.envelope); state = with_partials s p; change = None };
     does = refl;
     outcome = sym (ap (λ (e : Effect). e.outcome) does);
@@ -57,13 +57,13 @@ module _ (speech : Speech) (hosts : List ℕ → Bool) (algorithms : List ℕ �
   }
 
   -- a request that isn't denied
-  asks : (r : Content) (o : Option (List ℕ)) → told_site speech.site r.operation ≡ o → is_denied speech.takes_changes r.operation ≡ false → ask_task (with_partials s p) m r o ≡ request_task speech (with_partials s p) m r
+  asks : (r : Content) (o : Option (List ℕ)) → told_site lane_profile.site r.operation ≡ o → is_denied lane_profile.takes_changes r.operation ≡ false → ask_task (with_partials s p) m r o ≡ request_task lane_profile (with_partials s p) m r
   asks r o told allowed = λ i. cond {A = Task} (sym allowed i) (Deny m r (with_partials s p)) (ask_task (with_partials s p) m r (sym told i))
 
-  asked : (r : Content) → SpellsRequest speech.wire m.message r → response_of r.operation ≡ None → told_site speech.site r.operation ≡ None → is_denied speech.takes_changes r.operation ≡ false → (eff : Effect) → Does hosts algorithms t (Ask m r s) eff → Moved speech hosts algorithms t s p m eff
+  asked : (r : Content) → SpellsRequest lane_profile.wire m.message r → response_of r.operation ≡ None → told_site lane_profile.site r.operation ≡ None → is_denied lane_profile.takes_changes r.operation ≡ false → (eff : Effect) → Does hosts algorithms t (Ask m r s) eff → Moved lane_profile hosts algorithms t s p m eff
   asked r spells is told allowed eff (d, decides, does) = record {
     task = Ask m r (with_partials s p);
-    is_task = (Some r, spells, subst (λ x. IsRequestTask speech (with_partials s p) m r x (Ask m r (with_partials s p))) (sym is) (asks r None told allowed));
+    is_task = (Some r, spells, subst (λ x. IsRequestTask lane_profile (with_partials s p) m r x (Ask m r (with_partials s p))) (sym is) (asks r None told allowed));
     effect = ask_effect alg (with_partials s p) m r d;
     does = (d, decides, refl);
     outcome = outcome_by (d.code == 402) ∙ sym (ap (λ (e : Effect). e.outcome) does);
@@ -92,8 +92,8 @@ module _ (speech : Speech) (hosts : List ℕ → Bool) (algorithms : List ℕ �
       same_by false = refl
 
   -- an answer that keeps the partial messages
-  replied : (k' : Task) (a : Algorithm) (r : Content) (d : Decision) (here here' : LaneState) (eff : Effect) → IsMessageTask speech (with_partials s p) m k' → here' ≡ with_partials here p → here.partials ≡ s.partials
-      → eff ≡ answer_effect a here m r d → Does hosts algorithms t k' (answer_effect a here' m r d) → Moved speech hosts algorithms t s p m eff
+  replied : (k' : Task) (a : Algorithm) (r : Content) (d : Decision) (here here' : LaneState) (eff : Effect) → IsMessageTask lane_profile (with_partials s p) m k' → here' ≡ with_partials here p → here.partials ≡ s.partials
+      → eff ≡ answer_effect a here m r d → Does hosts algorithms t k' (answer_effect a here' m r d) → Moved lane_profile hosts algorithms t s p m eff
   replied k' a r d here here' eff task moved same is does = record {
     task = k';
     is_task = task;
@@ -105,33 +105,33 @@ module _ (speech : Speech) (hosts : List ℕ → Bool) (algorithms : List ℕ �
     same = ap (λ (e : Effect). e.state.partials) is ∙ same;
   }
 
-  informs : (r : Content) (site : List ℕ) → SpellsRequest speech.wire m.message r → response_of r.operation ≡ None → told_site speech.site r.operation ≡ Some site → is_denied speech.takes_changes r.operation ≡ false → (eff : Effect) → Does hosts algorithms t (Inform m r site s) eff
-      → Moved speech hosts algorithms t s p m eff
+  informs : (r : Content) (site : List ℕ) → SpellsRequest lane_profile.wire m.message r → response_of r.operation ≡ None → told_site lane_profile.site r.operation ≡ Some site → is_denied lane_profile.takes_changes r.operation ≡ false → (eff : Effect) → Does hosts algorithms t (Inform m r site s) eff
+      → Moved lane_profile hosts algorithms t s p m eff
   informs r site spells is told allowed eff does =
       replied (Inform m r site (with_partials s p)) Sha1 r (site_decision Sha1 r site) s (with_partials s p) eff
-      (Some r, spells, subst (λ x. IsRequestTask speech (with_partials s p) m r x (Inform m r site (with_partials s p))) (sym is) (asks r (Some site) told allowed)) refl refl does refl
+      (Some r, spells, subst (λ x. IsRequestTask lane_profile (with_partials s p) m r x (Inform m r site (with_partials s p))) (sym is) (asks r (Some site) told allowed)) refl refl does refl
 
-  denies : (r : Content) → SpellsRequest speech.wire m.message r → response_of r.operation ≡ None → is_denied speech.takes_changes r.operation ≡ true → (eff : Effect) → Does hosts algorithms t (Deny m r s) eff → Moved speech hosts algorithms t s p m eff
+  denies : (r : Content) → SpellsRequest lane_profile.wire m.message r → response_of r.operation ≡ None → is_denied lane_profile.takes_changes r.operation ≡ true → (eff : Effect) → Does hosts algorithms t (Deny m r s) eff → Moved lane_profile hosts algorithms t s p m eff
   denies r spells is never eff does =
       replied (Deny m r (with_partials s p)) (request_algorithm algorithms r) r (failure 5 Empty) s (with_partials s p) eff (
         Some r,
         spells,
-        subst (λ x. IsRequestTask speech (with_partials s p) m r x (Deny m r (with_partials s p))) (sym is)
-            (λ i. cond {A = Task} (sym never i) (Deny m r (with_partials s p)) (ask_task (with_partials s p) m r (told_site speech.site r.operation))),
+        subst (λ x. IsRequestTask lane_profile (with_partials s p) m r x (Deny m r (with_partials s p))) (sym is)
+            (λ i. cond {A = Task} (sym never i) (Deny m r (with_partials s p)) (ask_task (with_partials s p) m r (told_site lane_profile.site r.operation))),
       )
       refl refl does refl
 
-  found : (r : Content) (a : Response) (c : Pending) (o : Option Content) → SpellsRequest speech.wire m.message r → response_of r.operation ≡ Some a → challenge_of s.challenges.challenges m.peer m.envelope.session ≡ Some c
-      → IsReading (SpellsRequest speech.wire c.message) o → IsMessageTask speech (with_partials s p) m (redeem_task speech.takes_changes (with_partials s p) m a c o)
+  found : (r : Content) (a : Response) (c : Pending) (o : Option Content) → SpellsRequest lane_profile.wire m.message r → response_of r.operation ≡ Some a → challenge_of s.challenges.challenges m.peer m.envelope.session ≡ Some c
+      → IsReading (SpellsRequest lane_profile.wire c.message) o → IsMessageTask lane_profile (with_partials s p) m (redeem_task lane_profile.takes_changes (with_partials s p) m a c o)
   found r a c o spells is there reading = (
     Some r,
     spells,
-    subst (λ x. IsRequestTask speech (with_partials s p) m r x (redeem_task speech.takes_changes (with_partials s p) m a c o)) (sym is)
-        (subst (λ x. IsResponseTask speech (with_partials s p) m r a x (redeem_task speech.takes_changes (with_partials s p) m a c o)) (sym there) (o, reading, refl)),
+    subst (λ x. IsRequestTask lane_profile (with_partials s p) m r x (redeem_task lane_profile.takes_changes (with_partials s p) m a c o)) (sym is)
+        (subst (λ x. IsResponseTask lane_profile (with_partials s p) m r a x (redeem_task lane_profile.takes_changes (with_partials s p) m a c o)) (sym there) (o, reading, refl)),
   )
 
-  redeems : (r : Content) (a : Response) (c : Pending) (o : Option Content) → SpellsRequest speech.wire m.message r → response_of r.operation ≡ Some a → challenge_of s.challenges.challenges m.peer m.envelope.session ≡ Some c
-      → IsReading (SpellsRequest speech.wire c.message) o → (eff : Effect) → Does hosts algorithms t (redeem_task speech.takes_changes s m a c o) eff → Moved speech hosts algorithms t s p m eff
+  redeems : (r : Content) (a : Response) (c : Pending) (o : Option Content) → SpellsRequest lane_profile.wire m.message r → response_of r.operation ≡ Some a → challenge_of s.challenges.challenges m.peer m.envelope.session ≡ Some c
+      → IsReading (SpellsRequest lane_profile.wire c.message) o → (eff : Effect) → Does hosts algorithms t (redeem_task lane_profile.takes_changes s m a c o) eff → Moved lane_profile hosts algorithms t s p m eff
   redeems r a c None spells is there reading eff does = record {
     task = Malformed m (without_challenge (with_partials s p) m);
     is_task = found r a c None spells is there reading;
@@ -142,15 +142,15 @@ module _ (speech : Speech) (hosts : List ℕ → Bool) (algorithms : List ℕ �
     change = sym (ap (λ (e : Effect). e.change) does);
     same = ap (λ (e : Effect). e.state.partials) does;
   }
-  redeems r a c (Some q) spells is there reading eff does = by_denial (is_denied speech.takes_changes q.operation) refl does
+  redeems r a c (Some q) spells is there reading eff does = by_denial (is_denied lane_profile.takes_changes q.operation) refl does
     where
-      answers : (b : Bool) → is_denied speech.takes_changes q.operation ≡ b → (g : Algorithm) (d : Decision) → eff ≡ answer_effect g (without_challenge s m) m q d
-          → Does hosts algorithms t (cond {A = Task} b (Deny m q (without_challenge (with_partials s p) m)) (due_task (without_challenge (with_partials s p) m) m a c q)) (answer_effect g (without_challenge (with_partials s p) m) m q d) → Moved speech hosts algorithms t s p m eff
+      answers : (b : Bool) → is_denied lane_profile.takes_changes q.operation ≡ b → (g : Algorithm) (d : Decision) → eff ≡ answer_effect g (without_challenge s m) m q d
+          → Does hosts algorithms t (cond {A = Task} b (Deny m q (without_challenge (with_partials s p) m)) (due_task (without_challenge (with_partials s p) m) m a c q)) (answer_effect g (without_challenge (with_partials s p) m) m q d) → Moved lane_profile hosts algorithms t s p m eff
       answers b e g d same done =
-          replied (redeem_task speech.takes_changes (with_partials s p) m a c (Some q)) g q d (without_challenge s m) (without_challenge (with_partials s p) m) eff (found r a c (Some q) spells is there reading) refl refl same
+          replied (redeem_task lane_profile.takes_changes (with_partials s p) m a c (Some q)) g q d (without_challenge s m) (without_challenge (with_partials s p) m) eff (found r a c (Some q) spells is there reading) refl refl same
           (subst (λ x. Does hosts algorithms t (cond {A = Task} x (Deny m q (without_challenge (with_partials s p) m)) (due_task (without_challenge (with_partials s p) m) m a c q)) (answer_effect g (without_challenge (with_partials s p) m) m q d)) (sym e) done)
 
-      by_time : (b : Bool) → is_denied speech.takes_changes q.operation ≡ false → is_late m c ≡ b → Does hosts algorithms t (cond b (Late m q (algorithm_of c.digest) (without_challenge s m)) (Redeem m q (record { response = a; nonce = c.nonce; digest = c.digest }) (without_challenge s m))) eff → Moved speech hosts algorithms t s p m eff
+      by_time : (b : Bool) → is_denied lane_profile.takes_changes q.operation ≡ false → is_late m c ≡ b → Does hosts algorithms t (cond b (Late m q (algorithm_of c.digest) (without_challenge s m)) (Redeem m q (record { response = a; nonce = c.nonce; digest = c.digest }) (without_challenge s m))) eff → Moved lane_profile hosts algorithms t s p m eff
       by_time true allowed late does =
           answers false allowed (algorithm_of c.digest) (failure 405 Empty) does
           (subst (λ b. Does hosts algorithms t (cond b (Late m q (algorithm_of c.digest) (without_challenge (with_partials s p) m)) (Redeem m q (record { response = a; nonce = c.nonce; digest = c.digest }) (without_challenge (with_partials s p) m))) (answer_effect (algorithm_of c.digest) (without_challenge (with_partials s p) m) m q (failure 405 Empty))) (sym late) refl)
@@ -158,31 +158,31 @@ module _ (speech : Speech) (hosts : List ℕ → Bool) (algorithms : List ℕ �
           answers false allowed (algorithm_of c.digest) d does
           (subst (λ b. Does hosts algorithms t (cond b (Late m q (algorithm_of c.digest) (without_challenge (with_partials s p) m)) (Redeem m q (record { response = a; nonce = c.nonce; digest = c.digest }) (without_challenge (with_partials s p) m))) (answer_effect (algorithm_of c.digest) (without_challenge (with_partials s p) m) m q d)) (sym late) (d, decides, refl))
 
-      by_denial : (b : Bool) → is_denied speech.takes_changes q.operation ≡ b → Does hosts algorithms t (cond {A = Task} b (Deny m q (without_challenge s m)) (due_task (without_challenge s m) m a c q)) eff → Moved speech hosts algorithms t s p m eff
+      by_denial : (b : Bool) → is_denied lane_profile.takes_changes q.operation ≡ b → Does hosts algorithms t (cond {A = Task} b (Deny m q (without_challenge s m)) (due_task (without_challenge s m) m a c q)) eff → Moved lane_profile hosts algorithms t s p m eff
       by_denial true e does = answers true e (request_algorithm algorithms q) (failure 5 Empty) does refl
       by_denial false e does = by_time (is_late m c) e refl does
 
-  responded : (r : Content) (a : Response) (o : Option Pending) (k : Task) → SpellsRequest speech.wire m.message r → response_of r.operation ≡ Some a → challenge_of s.challenges.challenges m.peer m.envelope.session ≡ o
-      → IsResponseTask speech s m r a o k → (eff : Effect) → Does hosts algorithms t k eff → Moved speech hosts algorithms t s p m eff
+  responded : (r : Content) (a : Response) (o : Option Pending) (k : Task) → SpellsRequest lane_profile.wire m.message r → response_of r.operation ≡ Some a → challenge_of s.challenges.challenges m.peer m.envelope.session ≡ o
+      → IsResponseTask lane_profile s m r a o k → (eff : Effect) → Does hosts algorithms t k eff → Moved lane_profile hosts algorithms t s p m eff
   responded r a None k spells is there task eff does =
       replied (Unknown m r (with_partials s p)) Sha1 r (failure 4 Empty) s (with_partials s p) eff
-      (Some r, spells, subst (λ x. IsRequestTask speech (with_partials s p) m r x (Unknown m r (with_partials s p))) (sym is) (subst (λ x. IsResponseTask speech (with_partials s p) m r a x (Unknown m r (with_partials s p))) (sym there) refl))
+      (Some r, spells, subst (λ x. IsRequestTask lane_profile (with_partials s p) m r x (Unknown m r (with_partials s p))) (sym is) (subst (λ x. IsResponseTask lane_profile (with_partials s p) m r a x (Unknown m r (with_partials s p))) (sym there) refl))
       refl refl (subst (λ x. Does hosts algorithms t x eff) task does) refl
   responded r a (Some c) k spells is there (o, reading, task) eff does = redeems r a c o spells is there reading eff (subst (λ x. Does hosts algorithms t x eff) task does)
 
-  requested : (r : Content) (o : Option Response) (k : Task) → SpellsRequest speech.wire m.message r → response_of r.operation ≡ o → IsRequestTask speech s m r o k → (eff : Effect) → Does hosts algorithms t k eff → Moved speech hosts algorithms t s p m eff
-  requested r None k spells is task eff does = by_denial (is_denied speech.takes_changes r.operation) refl (subst (λ x. Does hosts algorithms t x eff) task does)
+  requested : (r : Content) (o : Option Response) (k : Task) → SpellsRequest lane_profile.wire m.message r → response_of r.operation ≡ o → IsRequestTask lane_profile s m r o k → (eff : Effect) → Does hosts algorithms t k eff → Moved lane_profile hosts algorithms t s p m eff
+  requested r None k spells is task eff does = by_denial (is_denied lane_profile.takes_changes r.operation) refl (subst (λ x. Does hosts algorithms t x eff) task does)
     where
-      by : (o : Option (List ℕ)) → told_site speech.site r.operation ≡ o → is_denied speech.takes_changes r.operation ≡ false → Does hosts algorithms t (ask_task s m r o) eff → Moved speech hosts algorithms t s p m eff
+      by : (o : Option (List ℕ)) → told_site lane_profile.site r.operation ≡ o → is_denied lane_profile.takes_changes r.operation ≡ false → Does hosts algorithms t (ask_task s m r o) eff → Moved lane_profile hosts algorithms t s p m eff
       by None told allowed does = asked r spells is told allowed eff does
       by (Some site) told allowed does = informs r site spells is told allowed eff does
 
-      by_denial : (b : Bool) → is_denied speech.takes_changes r.operation ≡ b → Does hosts algorithms t (cond {A = Task} b (Deny m r s) (ask_task s m r (told_site speech.site r.operation))) eff → Moved speech hosts algorithms t s p m eff
+      by_denial : (b : Bool) → is_denied lane_profile.takes_changes r.operation ≡ b → Does hosts algorithms t (cond {A = Task} b (Deny m r s) (ask_task s m r (told_site lane_profile.site r.operation))) eff → Moved lane_profile hosts algorithms t s p m eff
       by_denial true e does = denies r spells is e eff does
-      by_denial false e does = by (told_site speech.site r.operation) refl e does
+      by_denial false e does = by (told_site lane_profile.site r.operation) refl e does
   requested r (Some a) k spells is task eff does = responded r a (challenge_of s.challenges.challenges m.peer m.envelope.session) k spells is refl task eff does
 
-  moved : (k : Task) → IsMessageTask speech s m k → (eff : Effect) → Does hosts algorithms t k eff → Moved speech hosts algorithms t s p m eff
+  moved : (k : Task) → IsMessageTask lane_profile s m k → (eff : Effect) → Does hosts algorithms t k eff → Moved lane_profile hosts algorithms t s p m eff
   moved k (None, reading, task) eff does = garbled None reading refl eff (subst (λ x. Does hosts algorithms t x eff) task does)
   moved k (Some r, reading, task) eff does = requested r (response_of r.operation) k reading refl task eff does
 
@@ -207,9 +207,9 @@ whole_stays lane key displaced more message is = refl
 
 -- ---- a piece
 
-module _ (speech : Speech) (hosts : List ℕ → Bool) (algorithms : List ℕ → Algorithm) (t : Table) (lanes : List Held) (number : ℕ) (m : Origin) (bytes : List ℕ) (envelope : m.envelope ≡ envelope_at bytes) where
+module _ (lane_profile : LaneProfile) (hosts : List ℕ → Bool) (algorithms : List ℕ → Algorithm) (t : Table) (lanes : List Held) (number : ℕ) (m : Origin) (bytes : List ℕ) (envelope : m.envelope ≡ envelope_at bytes) where
   abbrev context : Context
-  context = record { speech = speech; hosts = hosts; algorithms = algorithms; table = t }
+  context = record { lane_profile = lane_profile; hosts = hosts; algorithms = algorithms; table = t }
 
   abbrev scene : Scene
   scene = record { context = context; lanes = lanes }
@@ -232,7 +232,7 @@ module _ (speech : Speech) (hosts : List ℕ → Bool) (algorithms : List ℕ �
     (
       record { outcome = Silent; state = with_partials here after.1; change = None },
       Ignore (with_partials here after.1),
-      subst (λ o. IsWholeTask speech (with_partials here after.1) (with_partials here (free_partial here.partials (key_of m.peer (envelope_at bytes)))) x o (Ignore (with_partials here after.1))) (sym none ∙ ap whole_message is) refl,
+      subst (λ o. IsWholeTask lane_profile (with_partials here after.1) (with_partials here (free_partial here.partials (key_of m.peer (envelope_at bytes)))) x o (Ignore (with_partials here after.1))) (sym none ∙ ap whole_message is) refl,
       refl,
       refl,
       refl,
@@ -250,13 +250,13 @@ module _ (speech : Speech) (hosts : List ℕ → Bool) (algorithms : List ℕ �
       same ∙ ap (λ p. with_state lanes number (with_partials here p)) stays ∙ sym (held_lanes.kept lanes number)
 
   pub whole : (message octets : List ℕ) (lanes' lanes'' : List Held) (t' : Table) → number < length lanes → made_whole message ≡ (take_piece (state_at lanes number).partials (piece_of m.peer bytes)).0
-      → HearsAt scene number (message_as m message) octets lanes' t'
+      → HandlesMessageAt scene number (message_as m message) octets lanes' t'
       → lanes'' ≡ with_state lanes' number (with_partials (state_at lanes' number) (free_partial (state_at lanes' number).partials (key_of m.peer m.envelope)))
       → AssemblesAt scene number (received_as m bytes) (Some octets) lanes'' t'
   whole message octets lanes' lanes'' t' there is (s', same, (k, task, (eff, does, out, state, table))) free =
       let key = key_of m.peer (envelope_at bytes) in
       let gone = free_partial here.partials key in
-      let mv = moved speech hosts algorithms t here gone (message_as m message) k task eff does in
+      let mv = moved lane_profile hosts algorithms t here gone (message_as m message) k task eff does in
       let now : state_at lanes' number ≡ s' = ap (λ (ls : List Held). state_at ls number) same ∙ ap (λ (h : Held). h.state) (get_or-set_same lanes number (record { publisher = (held_at lanes number).publisher; state = s' }) (record { publisher = 0; state = fresh false }) there) in
       let kept_partials : (state_at lanes' number).partials ≡ here.partials = ap (λ (s : LaneState). s.partials) (now ∙ sym state) ∙ mv.same in
       let freed_now : with_partials (state_at lanes' number) (free_partial (state_at lanes' number).partials (key_of m.peer m.envelope)) ≡ with_partials s' gone =
@@ -270,8 +270,8 @@ module _ (speech : Speech) (hosts : List ℕ → Bool) (algorithms : List ℕ �
         (
           mv.effect,
           mv.task,
-          subst (λ o. IsWholeTask speech (with_partials here after.1) (with_partials here gone) x o mv.task) (ap whole_message is)
-              (subst (λ (l : tasks.Message). IsMessageTask speech (with_partials here gone) l mv.task) (λ i. record { peer = m.peer; moment = m.moment; nonce = m.nonce; envelope = envelope i; message = message }) mv.is_task),
+          subst (λ o. IsWholeTask lane_profile (with_partials here after.1) (with_partials here gone) x o mv.task) (ap whole_message is)
+              (subst (λ (l : tasks.Message). IsMessageTask lane_profile (with_partials here gone) l mv.task) (λ i. record { peer = m.peer; moment = m.moment; nonce = m.nonce; envelope = envelope i; message = message }) mv.is_task),
           mv.does,
           mv.outcome ∙ out,
           mv.state ∙ ap (λ (s : LaneState). with_partials s gone) state,

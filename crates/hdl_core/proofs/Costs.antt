@@ -14,8 +14,8 @@ use Rattle.hdl_events.specs.declared.Outcome.{Outcome}
 use Rattle.hdl_laws.specs.Lanes.{LaneState, fresh}
 use Rattle.hdl_laws.specs.Worlds.{World, lane_of}
 use Rattle.hdl_laws.specs.Steps.{Turn}
-use Rattle.hdl_laws.specs.Runs.{IsRun, Steps, last}
-use Rattle.hdl_laws.specs.Cost.{IsStranger, IsUnchallenged, HaveAtMost, RunReads}
+use Rattle.hdl_laws.specs.Runs.{IsRun, HasStep, last}
+use Rattle.hdl_laws.specs.Cost.{IsStranger, IsUnchallenged, HaveAtMost, HasRunReads}
 use Rattle.hdl_laws.proofs.Joined.{run_joined, last_joined}
 use Rattle.hdl_core.specs.Held.{Held, state_at}
 use Rattle.hdl_core.specs.Worlds.{world_of}
@@ -61,8 +61,8 @@ one_more n m k l c before here = omega (arith, before, here, suc-mul l c)
 one_longer : (ts : List Turn) (t : Turn) → length (ts ++ (t ∷ [])) ≡ suc (length ts)
 one_longer ts t = omega (arith, length-append ts (t ∷ []))
 
-pub run_reads : (w mid new : World) (es : List Event) (os : List Outcome) (e : Event) (o : Outcome) (n m k : ℕ) → RunReads w es os mid n m → Steps mid e o new → ReadsWithin mid.table proof_cost m k
-    → RunReads w (es ++ (e ∷ [])) (os ++ (o ∷ [])) new n k
+pub run_reads : (w mid new : World) (es : List Event) (os : List Outcome) (e : Event) (o : Outcome) (n m k : ℕ) → HasRunReads w es os mid n m → HasStep mid e o new → ReadsWithin mid.table proof_cost m k
+    → HasRunReads w (es ++ (e ∷ [])) (os ++ (o ∷ [])) new n k
 run_reads w mid new es os e o n m k run s read =
     let ts = run.0 in
     let us : List Turn = s.0 ∷ [] in

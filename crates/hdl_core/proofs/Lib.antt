@@ -1,6 +1,6 @@
 pub mod Fits
 pub mod HeldLanes
-pub mod Heard
+pub mod Answered
 pub mod Assembled
 pub mod Received
 pub mod Places

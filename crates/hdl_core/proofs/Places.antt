@@ -10,14 +10,14 @@ use Rattle.std.proofs.lemmas.List.{length-map}
 use Rattle.hdl_rows.specs.Table.{Table}
 use Rattle.hdl_tenants.specs.Register.{Publisher, Register, wire, site, site_among}
 use Rattle.hdl_value.specs.declared.wire.Wire.{Wire}
-use Rattle.hdl_laws.specs.Speech.{Speech}
+use Rattle.hdl_laws.specs.LaneProfile.{LaneProfile}
 use Rattle.hdl_ops.specs.Decisions.{told_by}
 use Rattle.hdl_value.specs.declared.wire.Wire.TheVariants.{Profile}
 use Rattle.std.specs.Option.{option_map_or}
 use Rattle.hdl_ops.specs.Tables.{apply_if}
 use Rattle.hdl_laws.specs.Lanes.{fresh}
 use Rattle.hdl_events.specs.declared.Event.{Event}
-use Rattle.hdl_laws.specs.Worlds.{owner, lane_of, layout, speech}
+use Rattle.hdl_laws.specs.Worlds.{owner, lane_of, layout, lane_profile}
 use Rattle.hdl_laws.specs.Effects.{Effect}
 use Rattle.hdl_laws.specs.Steps.{after_effect, moment_of}
 use Rattle.hdl_core.specs.Held.{Held}
@@ -81,7 +81,7 @@ layout_of r b lanes t u =
     ∙ sym (ap (λ (o : Option Wire). unwrap_or o Profile) (get-by_place (map (λ (p : Publisher). p.wire) r.publishers) u ∙ slice_get-map (λ (p : Publisher). p.wire) r.publishers u))
 
 -- how the lanes of the publisher at this place speak
-abbrev pub register_speech : Register → Bool → ℕ → Speech
+abbrev pub register_speech : Register → Bool → ℕ → LaneProfile
 register_speech r b u = record { wire = wire r u; site = told_by (wire r u) (site r u); takes_changes = b }
 
 sites_of : (r : Register) (b : Bool) (lanes : List Held) (t : Table) (u : ℕ) → site r u ≡ site_among (world_of r b lanes t).site.sites u
@@ -92,7 +92,7 @@ taken_in : (r : Register) (b : Bool) (lanes : List Held) (t : Table) → b ≡ (
 unfolding world_of
 taken_in r b lanes t = refl
 
-pub speech_of : (r : Register) (b : Bool) (lanes : List Held) (t : Table) (u : ℕ) → register_speech r b u ≡ speech (world_of r b lanes t).site u
+pub speech_of : (r : Register) (b : Bool) (lanes : List Held) (t : Table) (u : ℕ) → register_speech r b u ≡ lane_profile (world_of r b lanes t).site u
 speech_of r b lanes t u = λ i. record { wire = layout_of r b lanes t u i; site = told_by (layout_of r b lanes t u i) (sites_of r b lanes t u i); takes_changes = taken_in r b lanes t i }
 
 pub lane_of_world : (r : Register) (b : Bool) (lanes : List Held) (t : Table) (l : ℕ) → lane_of (world_of r b lanes t) l ≡ unwrap_or (option_map (λ (y : Held). y.state) (slice_get lanes l)) (fresh false)

@@ -8,7 +8,7 @@ use Rattle.hdl_frame.specs.Frames.{IsFrame}
 use Rattle.hdl_frame.specs.Splitting.{IsFrameOf}
 use Rattle.hdl_msg.specs.Reply.{short_reply, IsReplyFrame}
 use Rattle.hdl_msg.proofs.ReplyReadings.{short_reply_read}
-use Rattle.hdl_laws.specs.Speech.{Speech}
+use Rattle.hdl_laws.specs.LaneProfile.{LaneProfile}
 use Rattle.hdl_rows.specs.Table.{Table}
 use Rattle.hdl_events.specs.declared.What.{What}
 use Rattle.hdl_events.specs.declared.What.TheVariants.{Open, Bad, Close}
@@ -24,7 +24,7 @@ use Rattle.hdl_core.specs.Held.{Held, state_at, with_state}
 use Rattle.std.specs.Prelude.{IfOk, IfSome, OnErr}
 use Rattle.std.specs.Option.{option_map_or}
 use Rattle.hdl_rows.specs.declared.rows.Refused.{Refused}
-use Rattle.hdl_core.specs.Serving.{Context, Scene, message_as, outcome_of, AssemblesAt, HearsAt, ReceivesAt, ServesAt}
+use Rattle.hdl_core.specs.Serving.{Context, Scene, message_as, outcome_of, AssemblesAt, HandlesMessageAt, ReceivesAt, HandlesEventAt}
 use Rattle.hdl_core.proofs.HeldLanes.{kept}
 
 when_true : (b : Bool) (P Q : Type 0) → b ≡ true → P → MatchBool b P Q
@@ -41,9 +41,9 @@ read_of e (Ok (Some octets)) o is h = subst IsReadable (sym is) h
 read_of e (Ok None) o is h = subst IsReadable (sym is) tt
 read_of e (Err refusal) o is h = subst IsReadable (sym is) (short_reply_read e).0
 
-module _ (speech : Speech) (hosts : List ℕ → Bool) (algorithms : List ℕ → Algorithm) (t : Table) (lanes : List Held) (number : ℕ) where
+module _ (lane_profile : LaneProfile) (hosts : List ℕ → Bool) (algorithms : List ℕ → Algorithm) (t : Table) (lanes : List Held) (number : ℕ) where
   abbrev context : Context
-  context = record { speech = speech; hosts = hosts; algorithms = algorithms; table = t }
+  context = record { lane_profile = lane_profile; hosts = hosts; algorithms = algorithms; table = t }
 
   abbrev scene : Scene
   scene = record { context = context; lanes = lanes }
@@ -51,7 +51,7 @@ module _ (speech : Speech) (hosts : List ℕ → Bool) (algorithms : List ℕ �
   -- ---- octets that came on an open lane
 
   module _ (x : Received) where
-    ignored : IsOctetsTask speech (state_at lanes number) x (Ignore (state_at lanes number)) → ReceivesAt scene number x Silent lanes t
+    ignored : IsOctetsTask lane_profile (state_at lanes number) x (Ignore (state_at lanes number)) → ReceivesAt scene number x Silent lanes t
     ignored task = (state_at lanes number, kept lanes number, inl (record { outcome = Silent; state = state_at lanes number; change = None }, Ignore (state_at lanes number), task, refl, refl, refl, refl))
 
     pub no_frame : ¬ IsFrame x.bytes → ReceivesAt scene number x Silent lanes t
@@ -74,10 +74,10 @@ module _ (speech : Speech) (hosts : List ℕ → Bool) (algorithms : List ℕ �
 
     pub heard : (f : Frame) (m : Origin) (message octets : List ℕ) (lanes' : List Held) (t' : Table) → IsFrameOf x.bytes f → is_truncated f.envelope ≡ false → message ≡ drop 20 x.bytes
         → m ≡ record { lane = number; peer = x.peer; moment = x.moment; nonce = x.nonce; envelope = f.envelope }
-        → HearsAt scene number (message_as m message) octets lanes' t' → ReceivesAt scene number x (Reply octets) lanes' t'
+        → HandlesMessageAt scene number (message_as m message) octets lanes' t' → ReceivesAt scene number x (Reply octets) lanes' t'
     heard f m message octets lanes' t' found e is origin done =
         let same : message_as m message ≡ tasks.message_from x (drop 20 x.bytes) = λ i. message_as ((origin ∙ ap (λ (n : Envelope). record { lane = number; peer = x.peer; moment = x.moment; nonce = x.nonce; envelope = n }) found.envelope) i) (is i) in
-        let h = subst (λ (l : tasks.Message). HearsAt scene number l octets lanes' t') same done in (
+        let h = subst (λ (l : tasks.Message). HandlesMessageAt scene number l octets lanes' t') same done in (
           h.0,
           h.1,
           inl (h.2.2.0, h.2.0, inl (found.frame, when_false (is_truncated (envelope_at x.bytes)) _ _ (sym (ap is_truncated found.envelope) ∙ e) h.2.1), h.2.2.1, sym h.2.2.2, sym h.2.2.3, h.2.2.4),
@@ -86,21 +86,21 @@ module _ (speech : Speech) (hosts : List ℕ → Bool) (algorithms : List ℕ �
   -- ---- an event of a lane
 
   module _ (what : What) where
-    silent : (s' : LaneState) (lanes' : List Held) → tasks.IsTask speech (state_at lanes number) what (Ignore s') → lanes' ≡ with_state lanes number s' → ServesAt scene number what Silent lanes' t
+    silent : (s' : LaneState) (lanes' : List Held) → tasks.IsTask lane_profile (state_at lanes number) what (Ignore s') → lanes' ≡ with_state lanes number s' → HandlesEventAt scene number what Silent lanes' t
     silent s' lanes' task after = (s', after, inl (record { outcome = Silent; state = s'; change = None }, Ignore s', task, refl, refl, refl, refl))
 
-    pub opened : (lanes' : List Held) → what ≡ Open → lanes' ≡ with_state lanes number (fresh true) → ServesAt scene number what Silent lanes' t
-    opened lanes' e after = silent (fresh true) lanes' (subst (λ w. tasks.IsTask speech (state_at lanes number) w (Ignore (fresh true))) (sym e) refl) after
+    pub opened : (lanes' : List Held) → what ≡ Open → lanes' ≡ with_state lanes number (fresh true) → HandlesEventAt scene number what Silent lanes' t
+    opened lanes' e after = silent (fresh true) lanes' (subst (λ w. tasks.IsTask lane_profile (state_at lanes number) w (Ignore (fresh true))) (sym e) refl) after
 
-    pub closed : (lanes' : List Held) → what ≡ Close → lanes' ≡ with_state lanes number (fresh false) → ServesAt scene number what Silent lanes' t
-    closed lanes' e after = silent (fresh false) lanes' (subst (λ w. tasks.IsTask speech (state_at lanes number) w (Ignore (fresh false))) (sym e) refl) after
+    pub closed : (lanes' : List Held) → what ≡ Close → lanes' ≡ with_state lanes number (fresh false) → HandlesEventAt scene number what Silent lanes' t
+    closed lanes' e after = silent (fresh false) lanes' (subst (λ w. tasks.IsTask lane_profile (state_at lanes number) w (Ignore (fresh false))) (sym e) refl) after
 
-    pub unbroken : (session request : ℕ) → what ≡ Bad session request → (state_at lanes number).is_open ≡ false → ServesAt scene number what Silent lanes t
+    pub unbroken : (session request : ℕ) → what ≡ Bad session request → (state_at lanes number).is_open ≡ false → HandlesEventAt scene number what Silent lanes t
     unbroken session request e up =
         let s = state_at lanes number in
-        silent s lanes (subst (λ w. tasks.IsTask speech s w (Ignore s)) (sym e) (ap (λ b. cond b (Break session request s) (Ignore s)) (sym up))) (kept lanes number)
+        silent s lanes (subst (λ w. tasks.IsTask lane_profile s w (Ignore s)) (sym e) (ap (λ b. cond b (Break session request s) (Ignore s)) (sym up))) (kept lanes number)
 
-    pub broken : (session request : ℕ) (reply : List ℕ) → what ≡ Bad session request → (state_at lanes number).is_open ≡ true → reply ≡ short_reply 4 (message_envelope session request 0) → ServesAt scene number what (CloseAfter reply) lanes t
+    pub broken : (session request : ℕ) (reply : List ℕ) → what ≡ Bad session request → (state_at lanes number).is_open ≡ true → reply ≡ short_reply 4 (message_envelope session request 0) → HandlesEventAt scene number what (CloseAfter reply) lanes t
     broken session request reply e up is =
         let s = state_at lanes number in (
           s,
@@ -108,7 +108,7 @@ module _ (speech : Speech) (hosts : List ℕ → Bool) (algorithms : List ℕ �
           inl (
             record { outcome = CloseAfter (short_reply 4 (message_envelope session request 0)); state = s; change = None },
             Break session request s,
-            subst (λ w. tasks.IsTask speech s w (Break session request s)) (sym e) (ap (λ b. cond b (Break session request s) (Ignore s)) (sym up)),
+            subst (λ w. tasks.IsTask lane_profile s w (Break session request s)) (sym e) (ap (λ b. cond b (Break session request s) (Ignore s)) (sym up)),
             refl,
             ap CloseAfter is,
             refl,
@@ -116,14 +116,14 @@ module _ (speech : Speech) (hosts : List ℕ → Bool) (algorithms : List ℕ �
           ),
         )
 
-    pub unheard : (x : Received) → what ≡ what_of x → (state_at lanes number).is_open ≡ false → ServesAt scene number what Silent lanes t
+    pub unheard : (x : Received) → what ≡ what_of x → (state_at lanes number).is_open ≡ false → HandlesEventAt scene number what Silent lanes t
     unheard x e up =
         let s = state_at lanes number in
-        silent s lanes (subst (λ w. tasks.IsTask speech s w (Ignore s)) (sym e) (when_false s.is_open _ _ up refl)) (kept lanes number)
+        silent s lanes (subst (λ w. tasks.IsTask lane_profile s w (Ignore s)) (sym e) (when_false s.is_open _ _ up refl)) (kept lanes number)
 
-    pub received : (x : Received) (o : Outcome) (lanes' : List Held) (t' : Table) → what ≡ what_of x → (state_at lanes number).is_open ≡ true → ReceivesAt scene number x o lanes' t' → ServesAt scene number what o lanes' t'
+    pub received : (x : Received) (o : Outcome) (lanes' : List Held) (t' : Table) → what ≡ what_of x → (state_at lanes number).is_open ≡ true → ReceivesAt scene number x o lanes' t' → HandlesEventAt scene number what o lanes' t'
     received x o lanes' t' e up (s', after, inl a) =
         let s = state_at lanes number in
-        subst (λ w. ServesAt scene number w o lanes' t') (sym e) (s', after, inl (a.0, a.1, when_true s.is_open _ _ up a.2, a.3, a.4, a.5, a.6))
+        subst (λ w. HandlesEventAt scene number w o lanes' t') (sym e) (s', after, inl (a.0, a.1, when_true s.is_open _ _ up a.2, a.3, a.4, a.5, a.6))
     received x o lanes' t' e up (s', after, inr b) =
         (s', after, inr (record { received = x; frame_event = e; frame = b.0; is_open = up; outcome = b.1; lane_stays = b.2; table_stays = b.3 }))

@@ -12,14 +12,14 @@ use Rattle.hdl_events.specs.declared.Outcome.TheVariants.{Busy, Silent}
 use Rattle.hdl_laws.specs.Lanes.{LaneState, fresh}
 use Rattle.std.specs.Prelude.{IsFalse}
 use Rattle.hdl_laws.specs.Laws.{JoinsRuns, HostsNoRoot}
-use Rattle.hdl_laws.specs.Runs.{Run, Steps}
-use Rattle.hdl_laws.specs.Worlds.{World, hosts, algorithms, owner, lane_of, speech}
+use Rattle.hdl_laws.specs.Runs.{HasRun, HasStep}
+use Rattle.hdl_laws.specs.Worlds.{World, hosts, algorithms, owner, lane_of, lane_profile}
 use Rattle.hdl_laws.specs.Tasks.{IsTask}
 use Rattle.hdl_laws.specs.Effects.{Does}
 use Rattle.hdl_laws.specs.Steps.{Turn, turn, IsAnswerFor}
 use Rattle.hdl_core.specs.Held.{Held, held_at, with_state}
 use Rattle.hdl_core.specs.Worlds.{world_of}
-use Rattle.hdl_core.specs.Serving.{Scene, ServesAt}
+use Rattle.hdl_core.specs.Serving.{Scene, HandlesEventAt}
 use Rattle.hdl_core.proofs.HeldLanes.{kept}
 use Rattle.hdl_core.proofs.Places.{register_speech, speech_of, owner_of, lane_here, world_after}
 
@@ -39,7 +39,7 @@ table_of : (r : Register) (b : Bool) (lanes : List Held) (t : Table) (P : Table 
 unfolding world_of
 table_of r b lanes t P p = p
 
-pub steps_alone : (r : Register) (b : Bool) (lanes : List Held) (t : Table) (e : Event) → length lanes ≤ e.lane → Steps (world_of r b lanes t) e Silent (world_of r b lanes t)
+pub steps_alone : (r : Register) (b : Bool) (lanes : List Held) (t : Table) (e : Event) → length lanes ≤ e.lane → HasStep (world_of r b lanes t) e Silent (world_of r b lanes t)
 steps_alone r b lanes t e past =
     let w = world_of r b lanes t in
     let it : Turn = record { event = e; outcome = Silent; change = None; after = w } in
@@ -47,16 +47,16 @@ steps_alone r b lanes t e past =
 
 -- what stands before an event of a lane of this publisher
 abbrev pub scene : Register → Bool → Table → List Held → ℕ → Scene
-scene r b t lanes publisher = record { context = record { speech = register_speech r b publisher; hosts = register.hosts r publisher; algorithms = register.algorithm r publisher; table = t }; lanes = lanes }
+scene r b t lanes publisher = record { context = record { lane_profile = register_speech r b publisher; hosts = register.hosts r publisher; algorithms = register.algorithm r publisher; table = t }; lanes = lanes }
 
 pub steps_served : (r : Register) (b : Bool) (lanes lanes' : List Held) (t t' : Table) (e : Event) (o : Outcome) → e.lane < length lanes
-    → ServesAt (scene r b t lanes (held_at lanes e.lane).publisher) e.lane e.what o lanes' t'
-    → Steps (world_of r b lanes t) e o (world_of r b lanes' t')
+    → HandlesEventAt (scene r b t lanes (held_at lanes e.lane).publisher) e.lane e.what o lanes' t'
+    → HasStep (world_of r b lanes t) e o (world_of r b lanes' t')
 steps_served r b lanes lanes' t t' e o h (s', after, inl a) =
     let w = world_of r b lanes t in
     let here = held_at lanes e.lane in
     let owned : owner w.site e.lane ≡ Some here.publisher = owner_of r b lanes t e.lane ∙ ap (option_map (λ (x : Held). x.publisher)) (slice_get-get_or lanes e.lane nobody h) in
-    let task : IsTask (speech w.site here.publisher) (lane_of w e.lane) e.what a.1 =
+    let task : IsTask (lane_profile w.site here.publisher) (lane_of w e.lane) e.what a.1 =
     subst (λ l. IsTask l (lane_of w e.lane) e.what a.1) (speech_of r b lanes t here.publisher) (subst (λ s. IsTask (register_speech r b here.publisher) s e.what a.1) (sym (lane_here r b lanes t e.lane nobody h)) a.2) in
     let does : Does (hosts w.site here.publisher) (algorithms w.site here.publisher) w.table a.1 a.0 =
     table_of r b lanes t (λ x. Does (hosts w.site here.publisher) (algorithms w.site here.publisher) x a.1 a.0)
@@ -93,7 +93,7 @@ steps_served r b lanes lanes' t t' e o h (s', after, inr down) =
     some_is_some n e = cc
 
 -- a run goes on by a step
-pub run_step : (joins : JoinsRuns) (w mid new : World) (es : List Event) (os : List Outcome) (e : Event) (o : Outcome) → Run w es os mid → Steps mid e o new → Run w (es ++ (e ∷ [])) (os ++ (o ∷ [])) new
+pub run_step : (joins : JoinsRuns) (w mid new : World) (es : List Event) (os : List Outcome) (e : Event) (o : Outcome) → HasRun w es os mid → HasStep mid e o new → HasRun w (es ++ (e ∷ [])) (os ++ (o ∷ [])) new
 run_step joins w mid new es os e o run s =
     joins w mid new es (e ∷ []) os (o ∷ []) run (s.0 ∷ [], (s.1, tt), ap (λ x. x ∷ []) s.2, ap (λ x. x ∷ []) s.3, s.4)
 

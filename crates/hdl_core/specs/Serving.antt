@@ -32,12 +32,12 @@ use Rattle.hdl_laws.specs.Tasks.{Task, IsReading, without_challenge, redeem_task
 use Rattle.hdl_laws.specs.Effects.{answer_octets, challenge_octets, Effect, Does}
 use Rattle.hdl_laws.specs.Steps.{what_of, moment_of}
 use Rattle.hdl_laws.specs.Lanes.{LaneState}
-use Rattle.hdl_laws.specs.Speech.{Speech}
+use Rattle.hdl_laws.specs.LaneProfile.{LaneProfile}
 use Rattle.hdl_core.specs.declared.origin.Origin.{Origin}
 use Rattle.hdl_core.specs.declared.origin.Received as code
-use Rattle.hdl_core.specs.declared.hearing.Heard.{Heard}
-use Rattle.hdl_core.specs.declared.speaker.Speaker.{Speaker}
-use Rattle.hdl_core.specs.declared.hearing.Heard.TheVariants.{Answered, Challenged}
+use Rattle.hdl_core.specs.declared.messages.RequestResult.{RequestResult}
+use Rattle.hdl_core.specs.declared.lane_context.LaneContext.{LaneContext}
+use Rattle.hdl_core.specs.declared.messages.RequestResult.TheVariants.{Answered, Challenged}
 use Rattle.hdl_core.specs.Held.{Held, state_at, with_state}
 
 -- what was received, in the words of the laws
@@ -54,26 +54,26 @@ message_as origin message = record { peer = origin.peer; moment = origin.moment;
 
 -- What an event of a lane is decided by: how its publisher's lanes speak, the prefixes that are hosted for that publisher, their hash functions, and the table.
 pub record Context : Type 0 where
-  pub speech : Speech
+  pub lane_profile : LaneProfile
   pub hosts : List ℕ → Bool
   pub algorithms : List ℕ → Algorithm
   pub table : Table
 
 -- how the publisher's lanes speak
-abbrev pub speech_by : Speaker → Speech
-speech_by speaker = record { wire = wire_by speaker.owner; site = site_by speaker.owner; takes_changes = speaker.takes_changes }
+abbrev pub lane_profile_by : LaneContext → LaneProfile
+lane_profile_by lane_context = record { wire = wire_by lane_context.owner; site = site_by lane_context.owner; takes_changes = lane_context.takes_changes }
 
 -- the context of the publisher's lanes
-abbrev pub context : Speaker → Table → Context
-context speaker table = record { speech = speech_by speaker; hosts = hosted_by speaker.owner; algorithms = algorithms_by speaker.owner; table = table }
+abbrev pub context : LaneContext → Table → Context
+context lane_context table = record { lane_profile = lane_profile_by lane_context; hosts = hosted_by lane_context.owner; algorithms = algorithms_by lane_context.owner; table = table }
 
 -- The context of a lane, and all lanes.
 pub record Scene : Type 0 where
   pub context : Context
   pub lanes : List Held
 
-abbrev pub scene : Speaker → Table → List Held → Scene
-scene speaker table lanes = record { context = context speaker table; lanes = lanes }
+abbrev pub scene : LaneContext → Table → List Held → Scene
+scene lane_context table lanes = record { context = context lane_context table; lanes = lanes }
 
 -- A challenge response as it came: from where, its request, and what it answers.
 pub record Returned : Type 0 where
@@ -90,12 +90,12 @@ abbrev pub HasItsCode : Content → Type 0
 HasItsCode request = IsNumberOf (code_of request.operation) request.header.op_code
 
 -- what is sent to a request that is decided for anyone
-abbrev pub sent_of : Heard → List ℕ
+abbrev pub sent_of : RequestResult → List ℕ
 sent_of (Answered octets) = octets
 sent_of (Challenged octets digest) = octets
 
 -- the challenge of a request of this algorithm under this number
-abbrev pub challenge_of_request : Algorithm → Origin → ℕ → Content → Heard
+abbrev pub challenge_of_request : Algorithm → Origin → ℕ → Content → RequestResult
 challenge_of_request algorithm origin next request = Challenged (challenge_octets algorithm origin.moment next origin.envelope request origin.nonce) (digest_of algorithm request)
 
 -- the decision about a request for anyone
@@ -103,11 +103,11 @@ abbrev pub DecidesForAnyone : Context → Content → Decision → Type 0
 DecidesForAnyone given request decision = Decides given.hosts (request_algorithm given.algorithms request) given.table request Anyone decision
 
 -- a request is decided for anyone: it is answered, or challenged under the lane's next number
-abbrev pub IsHeardForAnyone : Context → Origin → ℕ → Content → Heard → Table → Type 0
-IsHeardForAnyone given origin next request (Answered octets) table' =
+abbrev pub IsDecidedForAnyone : Context → Origin → ℕ → Content → RequestResult → Table → Type 0
+IsDecidedForAnyone given origin next request (Answered octets) table' =
     (decision : Decision) × DecidesForAnyone given request decision × ((decision.code == response_number AuthenticationNeeded) ≡ false)
     × (octets ≡ answer_octets (request_algorithm given.algorithms request) origin.moment origin.envelope request decision.code decision.content) × (table' ≡ apply_if given.table origin.moment decision.change)
-IsHeardForAnyone given origin next request (Challenged octets digest) table' =
+IsDecidedForAnyone given origin next request (Challenged octets digest) table' =
     (decision : Decision) × DecidesForAnyone given request decision × ((decision.code == response_number AuthenticationNeeded) ≡ true)
     × (octets ≡ challenge_octets (request_algorithm given.algorithms request) origin.moment next origin.envelope request origin.nonce) × (digest ≡ digest_of (request_algorithm given.algorithms request) request) × (table' ≡ given.table)
 
@@ -131,27 +131,27 @@ Replies given moment task octets state' table' =
 -- a challenge response that names this challenge has this reply, whatever else the lane holds
 abbrev pub IsRedeemed : Context → Origin → Response → Pending → List ℕ → Table → Type 0
 IsRedeemed given origin response pending octets table' =
-    (state : LaneState) (message : List ℕ) → (reading : Option Content) × IsReading (SpellsRequest given.speech.wire pending.message) reading
-    × Replies given origin.moment (redeem_task given.speech.takes_changes state (message_as origin message) response pending reading) octets (without_challenge state (message_as origin message)) table'
+    (state : LaneState) (message : List ℕ) → (reading : Option Content) × IsReading (SpellsRequest given.lane_profile.wire pending.message) reading
+    × Replies given origin.moment (redeem_task given.lane_profile.takes_changes state (message_as origin message) response pending reading) octets (without_challenge state (message_as origin message)) table'
 
 -- what was returned, as a task of a lane in this state
-abbrev pub IsReturnedTask : Speech → LaneState → Returned → List ℕ → Task → Type 0
-IsReturnedTask speech state returned message task = IsResponseTask speech state (message_as returned.origin message) returned.request returned.response (challenge_of state.challenges.challenges returned.origin.peer returned.origin.envelope.session) task
+abbrev pub IsReturnedTask : LaneProfile → LaneState → Returned → List ℕ → Task → Type 0
+IsReturnedTask lane_profile state returned message task = IsResponseTask lane_profile state (message_as returned.origin message) returned.request returned.response (challenge_of state.challenges.challenges returned.origin.peer returned.origin.envelope.session) task
 
 -- a challenge response on a lane has this reply
 abbrev pub RespondsAt : Scene → ℕ → Returned → List ℕ → List Held → Table → Type 0
 RespondsAt given number returned octets lanes' table' =
     (message : List ℕ) → (state' : LaneState) × (lanes' ≡ with_state given.lanes number state') × (task : Task)
-    × IsReturnedTask given.context.speech (state_at given.lanes number) returned message task × Replies given.context returned.origin.moment task octets state' table'
+    × IsReturnedTask given.context.lane_profile (state_at given.lanes number) returned message task × Replies given.context returned.origin.moment task octets state' table'
 
 -- a message on a lane has this reply
-abbrev pub IsHeard : Context → LaneState → tasks.Message → List ℕ → LaneState → Table → Type 0
-IsHeard given state message octets state' table' = (task : Task) × IsMessageTask given.speech state message task × Replies given message.moment task octets state' table'
+abbrev pub IsMessageHandled : Context → LaneState → tasks.Message → List ℕ → LaneState → Table → Type 0
+IsMessageHandled given state message octets state' table' = (task : Task) × IsMessageTask given.lane_profile state message task × Replies given message.moment task octets state' table'
 
 -- the lanes after that
-abbrev pub HearsAt : Scene → ℕ → tasks.Message → List ℕ → List Held → Table → Type 0
-HearsAt given number message octets lanes' table' =
-    (state' : LaneState) × (lanes' ≡ with_state given.lanes number state') × IsHeard given.context (state_at given.lanes number) message octets state' table'
+abbrev pub HandlesMessageAt : Scene → ℕ → tasks.Message → List ℕ → List Held → Table → Type 0
+HandlesMessageAt given number message octets lanes' table' =
+    (state' : LaneState) × (lanes' ≡ with_state given.lanes number state') × IsMessageHandled given.context (state_at given.lanes number) message octets state' table'
 
 -- the outcome of a frame with this envelope: its reply if it has one, or busy
 abbrev pub outcome_of : Envelope → Result (Option (List ℕ)) Refused → Outcome
@@ -162,7 +162,7 @@ outcome_of envelope (Err refused) = Busy (short_reply (response_number ServerBus
 -- a piece that came on an open lane has this reply, or none yet
 abbrev pub IsAssembled : Context → LaneState → Received → Option (List ℕ) → LaneState → Table → Type 0
 IsAssembled given state piece reply state' table' =
-    (effect : Effect) × (task : Task) × IsPieceTask given.speech state piece (take_piece state.partials (piece_of piece.peer piece.bytes)) task × HasEffect given task effect
+    (effect : Effect) × (task : Task) × IsPieceTask given.lane_profile state piece (take_piece state.partials (piece_of piece.peer piece.bytes)) task × HasEffect given task effect
     × (effect.outcome ≡ option_map_or Reply reply Silent) × (effect.state ≡ state') × (table' ≡ apply_if given.table piece.moment effect.change)
 
 abbrev pub AssemblesAt : Scene → ℕ → Received → Option (List ℕ) → List Held → Table → Type 0
@@ -172,7 +172,7 @@ AssemblesAt given number piece reply lanes' table' =
 -- octets that came on an open lane have this outcome, or are refused and nothing changed
 abbrev pub IsReceived : Context → LaneState → Received → Outcome → LaneState → Table → Type 0
 IsReceived given state came outcome state' table' =
-    ((effect : Effect) × (task : Task) × IsOctetsTask given.speech state came task × HasEffect given task effect × (outcome ≡ effect.outcome) × (state' ≡ effect.state) × (table' ≡ apply_if given.table came.moment effect.change))
+    ((effect : Effect) × (task : Task) × IsOctetsTask given.lane_profile state came task × HasEffect given task effect × (outcome ≡ effect.outcome) × (state' ≡ effect.state) × (table' ≡ apply_if given.table came.moment effect.change))
     ⊎ (IsFrame came.bytes × (outcome ≡ Busy (short_reply (response_number ServerBusy) (envelope_at came.bytes))) × (state' ≡ state) × (table' ≡ given.table))
 
 abbrev pub ReceivesAt : Scene → ℕ → Received → Outcome → List Held → Table → Type 0
@@ -182,7 +182,7 @@ ReceivesAt given number came outcome lanes' table' =
 -- an event of the lane has this outcome, and leaves the lane and the table so
 abbrev pub IsAnswered : Context → LaneState → What → Outcome → LaneState → Table → Type 0
 IsAnswered given state what outcome state' table' =
-    (effect : Effect) × (task : Task) × IsTask given.speech state what task × HasEffect given task effect × (outcome ≡ effect.outcome) × (state' ≡ effect.state) × (table' ≡ apply_if given.table (moment_of what) effect.change)
+    (effect : Effect) × (task : Task) × IsTask given.lane_profile state what task × HasEffect given task effect × (outcome ≡ effect.outcome) × (state' ≡ effect.state) × (table' ≡ apply_if given.table (moment_of what) effect.change)
 
 -- a frame on the open lane is refused, and the lane stays
 pub record IsTurnedDown (table : Table) (state : LaneState) (what : What) (answer : Outcome) (state' : LaneState) (table' : Table) : Type 0 where
@@ -194,9 +194,9 @@ pub record IsTurnedDown (table : Table) (state : LaneState) (what : What) (answe
   pub lane_stays : state' ≡ state
   pub table_stays : table' ≡ table
 
-abbrev pub IsServed : Context → LaneState → What → Outcome → LaneState → Table → Type 0
-IsServed given state what outcome state' table' = IsAnswered given state what outcome state' table' ⊎ IsTurnedDown given.table state what outcome state' table'
+abbrev pub IsEventHandled : Context → LaneState → What → Outcome → LaneState → Table → Type 0
+IsEventHandled given state what outcome state' table' = IsAnswered given state what outcome state' table' ⊎ IsTurnedDown given.table state what outcome state' table'
 
-abbrev pub ServesAt : Scene → ℕ → What → Outcome → List Held → Table → Type 0
-ServesAt given number what outcome lanes' table' =
-    (state' : LaneState) × (lanes' ≡ with_state given.lanes number state') × IsServed given.context (state_at given.lanes number) what outcome state' table'
+abbrev pub HandlesEventAt : Scene → ℕ → What → Outcome → List Held → Table → Type 0
+HandlesEventAt given number what outcome lanes' table' =
+    (state' : LaneState) × (lanes' ≡ with_state given.lanes number state') × IsEventHandled given.context (state_at given.lanes number) what outcome state' table'

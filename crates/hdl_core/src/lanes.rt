@@ -75,7 +75,7 @@ impl Lanes {
     }
 
     /// Forgets all that is kept of the lane, which is then open or closed.
-    pub(crate) fn renew(&mut self, lane: u16, is_open: bool)
+    pub(crate) fn reset(&mut self, lane: u16, is_open: bool)
         requires there { lane < length self.old }
         ensures { self.new ≡ with_state self.old lane (fresh is_open) }
     {

@@ -19,7 +19,7 @@ use std::alloc::{AllocError, Global};
 
 /// What came of a change that another server decided.
 #[derive(Clone, Copy, Debug, PartialEq, Eq, Drop)]
-pub enum LetIn {
+pub enum RemoteChangeResult {
     /// It is in the table.
     Done,
     /// The table can't have it: its handle or one of its values is there and shouldn't be, or should be there and isn't.
@@ -31,13 +31,13 @@ pub enum LetIn {
 }
 
 /// What is told of a change whose write was refused.
-pub(crate) fn refusal(owed: Owed) -> LetIn
-    ensures { result ≡ (if is_owed owed then LetIn.Owed else LetIn.Refused) }
+pub(crate) fn refusal(owed: Owed) -> RemoteChangeResult
+    ensures { result ≡ (if is_owed owed then RemoteChangeResult.Owed else RemoteChangeResult.Refused) }
 {
     match owed {
-        Owed::Nothing => LetIn::Refused,
-        Owed::UnderWay => LetIn::Owed,
-        Owed::Ended => LetIn::Owed,
+        Owed::Nothing => RemoteChangeResult::Refused,
+        Owed::UnderWay => RemoteChangeResult::Owed,
+        Owed::Ended => RemoteChangeResult::Owed,
     }
 }
 
@@ -173,7 +173,7 @@ fn is_fit(found: &Option<Vec<Value>>, change: &Change, indexes: &[u32]) -> bool
 }
 
 /// Does the change if the table can have it, and says whether it can.
-pub(crate) fn let_in<R: Rows>(
+pub(crate) fn apply_remote<R: Rows>(
     alloc: Global,
     rows: &mut R,
     moment: u64,

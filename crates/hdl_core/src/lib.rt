@@ -31,23 +31,23 @@
 #![tactic(auto)]
 
 mod answering;
-mod hearing;
 mod lane;
+mod lane_context;
 mod lanes;
 mod letting;
 mod machine;
+mod messages;
 mod opening;
 mod origin;
 mod service;
 mod serving;
-mod speaker;
 
 pub use hdl_events::{Event, Outcome, What};
 pub use hdl_limits::Octets;
 pub use hdl_ops::{Change, Refused, Rows, Tenants};
 pub use hdl_rows::{Owed, Owing, PlainRows};
 pub use hdl_tenants::TenantFault;
-pub use letting::LetIn;
-pub use machine::{Machine, Stepped};
+pub use letting::RemoteChangeResult;
+pub use machine::{Machine, StepResult};
 pub use opening::OpenFault;
 pub use service::{Early, Service};

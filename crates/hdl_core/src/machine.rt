@@ -3,7 +3,7 @@
 ghost use Rattle.std.specs.Prelude.{◌≡◌, ◌≢◌, true, false};
 ghost use Rattle.hdl_rows.specs.Debt.{is_owed};
 ghost use Rattle.hdl_laws.specs.Laws.{HostsNoRoot};
-ghost use Rattle.hdl_laws.specs.Runs.{Steps};
+ghost use Rattle.hdl_laws.specs.Runs.{HasStep};
 ghost use Rattle.hdl_laws.specs.Reveals.{IsReadable, Reveals};
 ghost use Rattle.hdl_laws.specs.Worlds.{lane_of, owner, with_table};
 ghost use Rattle.hdl_laws.specs.Cost.{IsStranger};
@@ -11,11 +11,11 @@ ghost use Rattle.hdl_ops.specs.Cost.{anyone_cost, proof_cost};
 ghost use Rattle.hdl_ops.specs.Tables.{apply, CanApply};
 ghost use Rattle.hdl_reach.specs.Cost.{ReadsWithin, heads_cost};
 
+use crate::lane_context::LaneContext;
 use crate::lanes::Lanes;
-use crate::letting::{LetIn, let_in, refusal};
+use crate::letting::{RemoteChangeResult, apply_remote, refusal};
 use crate::service::Service;
-use crate::serving::serve;
-use crate::speaker::Speaker;
+use crate::serving::handle_event;
 use hdl_events::{Event, Outcome};
 use hdl_laws::laws::reply_told;
 use hdl_ops::{Change, MaskedRows, Owner, Rows, Tenants};
@@ -51,7 +51,7 @@ impl<R: Rows + Drop> Model for Machine<R> {
 
 /// What came of an event.
 #[derive(Drop)]
-pub struct Stepped {
+pub struct StepResult {
     pub outcome: Outcome,
     /// What the table owes behind it.
     pub owed: Owed,
@@ -59,25 +59,25 @@ pub struct Stepped {
 
 impl<R: Owing + Drop> Machine<R> {
     /// Serves one event, as [`Service::step`](crate::Service::step) does, whose write may be handed over or may not. Gives back what the table owes with the outcome.
-    pub fn step(&mut self, event: Event, may_write: bool) -> Stepped
-        ensures step { Steps self.old.world event result.outcome self.new.world }
+    pub fn step(&mut self, event: Event, may_write: bool) -> StepResult
+        ensures step { HasStep self.old.world event result.outcome self.new.world }
         ensures told { Reveals self.old.world event result.outcome }
         ensures read { IsReadable result.outcome }
         ensures cost { ReadsWithin self.old.world.table proof_cost (R.reads self.old.rows) (R.reads self.new.rows) }
         ensures stranger { IsStranger (lane_of self.old.world event.lane) event.what → ReadsWithin self.old.world.table anyone_cost (R.reads self.old.rows) (R.reads self.new.rows) }
         ensures owed { is_owed result.owed ≡ (R.debt self.new.rows).owes }
     {
-        self.rows.let_write(may_write);
-        let outcome = self.serve(event);
-        Stepped {
+        self.rows.set_may_write(may_write);
+        let outcome = self.handle_event(event);
+        StepResult {
             outcome,
             owed: self.rows.owed(),
         }
     }
 
     /// Serves one event: the answer, or Busy with the world as it was.
-    fn serve(&mut self, event: Event) -> Outcome
-        ensures step { Steps self.old.world event result self.new.world }
+    fn handle_event(&mut self, event: Event) -> Outcome
+        ensures step { HasStep self.old.world event result self.new.world }
         ensures told { Reveals self.old.world event result }
         ensures read { IsReadable result }
         ensures cost { ReadsWithin self.old.world.table proof_cost (R.reads self.old.rows) (R.reads self.new.rows) }
@@ -92,30 +92,30 @@ impl<R: Owing + Drop> Machine<R> {
             tenants: &self.tenants,
             publisher: self.lanes.publisher(event.lane),
         };
-        let speaker = Speaker {
+        let lane_context = LaneContext {
             owner,
             takes_changes: self.takes_changes,
         };
-        serve(&speaker, &mut self.rows, &mut self.lanes, event)
+        handle_event(&lane_context, &mut self.rows, &mut self.lanes, event)
     }
 
-    /// Does a change that another server decided, as [`Service::let_in`](crate::Service::let_in) does.
-    pub fn let_in(&mut self, moment: u64, change: &Change) -> LetIn
-        ensures done { result ≡ LetIn.Done → CanApply self.old.world.table change.now × (self.new.world ≡ with_table self.old.world (apply self.old.world.table moment change.now)) }
-        ensures unfit { result ≡ LetIn.Unfit → ¬ CanApply self.old.world.table change.now }
-        ensures undone { result ≢ LetIn.Done → self.new.world ≡ self.old.world }
-        ensures refused { result ≡ LetIn.Refused → (R.debt self.new.rows).owes ≡ false }
-        ensures owed { result ≡ LetIn.Owed → (R.debt self.new.rows).owes ≡ true }
+    /// Does a change that another server decided, as [`Service::apply_remote`](crate::Service::apply_remote) does.
+    pub fn apply_remote(&mut self, moment: u64, change: &Change) -> RemoteChangeResult
+        ensures done { result ≡ RemoteChangeResult.Done → CanApply self.old.world.table change.now × (self.new.world ≡ with_table self.old.world (apply self.old.world.table moment change.now)) }
+        ensures unfit { result ≡ RemoteChangeResult.Unfit → ¬ CanApply self.old.world.table change.now }
+        ensures undone { result ≢ RemoteChangeResult.Done → self.new.world ≡ self.old.world }
+        ensures refused { result ≡ RemoteChangeResult.Refused → (R.debt self.new.rows).owes ≡ false }
+        ensures owed { result ≡ RemoteChangeResult.Owed → (R.debt self.new.rows).owes ≡ true }
         ensures cost { ReadsWithin self.old.world.table heads_cost (R.reads self.old.rows) (R.reads self.new.rows) }
     {
-        self.rows.let_write(true);
-        let Ok(is_done) = let_in(self.alloc, &mut self.rows, moment, change) else {
+        self.rows.set_may_write(true);
+        let Ok(is_done) = apply_remote(self.alloc, &mut self.rows, moment, change) else {
             return refusal(self.rows.owed());
         };
         if is_done {
-            return LetIn::Done;
+            return RemoteChangeResult::Done;
         }
-        LetIn::Unfit
+        RemoteChangeResult::Unfit
     }
 
     /// Whether the table hands writes over at all.

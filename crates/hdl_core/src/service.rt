@@ -4,13 +4,13 @@ ghost use Rattle.std.specs.Prelude.{◌≡◌, ◌≢◌, true, false, All, IfOk
 ghost use Rattle.hdl_reach.specs.Cost.{ReadsWithin, heads_cost};
 ghost use Rattle.hdl_ops.specs.Cost.{anyone_cost, proof_cost};
 ghost use Rattle.hdl_ops.specs.Tables.{apply, CanApply};
-ghost use Rattle.hdl_laws.specs.Cost.{IsStranger, RunReads};
+ghost use Rattle.hdl_laws.specs.Cost.{IsStranger, HasRunReads};
 ghost use Rattle.hdl_laws.specs.Laws.{Hidden, HostsNoRoot, Isolated};
-ghost use Rattle.hdl_laws.specs.Runs.{Run, Steps};
+ghost use Rattle.hdl_laws.specs.Runs.{HasRun, HasStep};
 ghost use Rattle.hdl_laws.specs.Reveals.{IsReadable, Reveals};
 ghost use Rattle.hdl_laws.specs.Worlds.{lane_of, read_only, with_table};
 
-use crate::letting::LetIn;
+use crate::letting::RemoteChangeResult;
 use crate::machine::Machine;
 use hdl_events::{Event, Outcome};
 use hdl_laws::laws::{restricted, runs_joined, twin_replies};
@@ -57,7 +57,7 @@ impl<R: Owing + Drop> Service<R> {
     /// (`stranger`) these are the heads of one handle's values, a constant (`READ_MAX` of hdl_ops) and one value, whatever the handle holds. For any event
     /// (`cost`) a search for a mask is added, and the key's value; a list is read in place of values.
     pub fn step(&mut self, event: Event) -> Outcome
-        ensures step { Steps self.old.world event result self.new.world }
+        ensures step { HasStep self.old.world event result self.new.world }
         ensures told { Reveals self.old.world event result }
         ensures read { IsReadable result }
         ensures cost { ReadsWithin self.old.world.table proof_cost (R.reads self.old.rows) (R.reads self.new.rows) }
@@ -73,11 +73,11 @@ impl<R: Owing + Drop> Service<R> {
     /// serves the events so answered alone, so long as no other publisher changed these (`isolated`). Beyond codes no reply depends on a
     /// value of the first table that nobody in the run was allowed to read (`hidden`).
     pub fn run(&mut self, events: Vec<Event>) -> Result<Vec<Outcome>, Early>
-        ensures run { IfOk result (λ outcomes. Run self.old.world events.items outcomes.items self.new.world) }
+        ensures run { IfOk result (λ outcomes. HasRun self.old.world events.items outcomes.items self.new.world) }
         ensures isolated { IfOk result (λ outcomes. Isolated self.old.world events.items outcomes.items) }
         ensures hidden { IfOk result (λ outcomes. Hidden self.old.world events.items outcomes.items) }
         ensures read { IfOk result (λ outcomes. All IsReadable outcomes.items) }
-        ensures cost { IfOk result (λ outcomes. RunReads self.old.world events.items outcomes.items self.new.world (R.reads self.old.rows) (R.reads self.new.rows)) }
+        ensures cost { IfOk result (λ outcomes. HasRunReads self.old.world events.items outcomes.items self.new.world (R.reads self.old.rows) (R.reads self.new.rows)) }
         ensures early { IfErr result (λ back. back.0.items ≡ events.items) }
         ensures unchanged { OnErr result (self.new ≡ self.old) }
     {
@@ -102,15 +102,15 @@ impl<R: Owing + Drop> Service<R> {
     ///
     /// `Refused` and `Owed` leave the world as it was, and the same call may be made again. A table that makes its own writes never
     /// answers `Owed`. What it reads of the table are the heads of one handle's values at most (`cost`).
-    pub fn let_in(&mut self, moment: u64, change: &Change) -> LetIn
-        ensures done { result ≡ LetIn.Done → CanApply self.old.world.table change.now × (self.new.world ≡ with_table self.old.world (apply self.old.world.table moment change.now)) }
-        ensures unfit { result ≡ LetIn.Unfit → ¬ CanApply self.old.world.table change.now }
-        ensures undone { result ≢ LetIn.Done → self.new.world ≡ self.old.world }
-        ensures refused { result ≡ LetIn.Refused → (R.debt self.new.rows).owes ≡ false }
-        ensures owed { result ≡ LetIn.Owed → (R.debt self.new.rows).owes ≡ true }
+    pub fn apply_remote(&mut self, moment: u64, change: &Change) -> RemoteChangeResult
+        ensures done { result ≡ RemoteChangeResult.Done → CanApply self.old.world.table change.now × (self.new.world ≡ with_table self.old.world (apply self.old.world.table moment change.now)) }
+        ensures unfit { result ≡ RemoteChangeResult.Unfit → ¬ CanApply self.old.world.table change.now }
+        ensures undone { result ≢ RemoteChangeResult.Done → self.new.world ≡ self.old.world }
+        ensures refused { result ≡ RemoteChangeResult.Refused → (R.debt self.new.rows).owes ≡ false }
+        ensures owed { result ≡ RemoteChangeResult.Owed → (R.debt self.new.rows).owes ≡ true }
         ensures cost { ReadsWithin self.old.world.table heads_cost (R.reads self.old.rows) (R.reads self.new.rows) }
     {
-        self.machine.let_in(moment, change)
+        self.machine.apply_remote(moment, change)
     }
 }
 

@@ -9,12 +9,12 @@ ghost use Rattle.hdl_ops.specs.Cost.{anyone_cost, proof_cost};
 ghost use Rattle.hdl_laws.specs.Cost.{IsStranger, IsUnchallenged};
 ghost use Rattle.hdl_laws.specs.Reveals.{IsReadable};
 ghost use Rattle.hdl_core.specs.Held.{state_at};
-ghost use Rattle.hdl_core.specs.Serving.{AssemblesAt, outcome_of, received_as, received_of, scene, ReceivesAt, ServesAt};
+ghost use Rattle.hdl_core.specs.Serving.{AssemblesAt, outcome_of, received_as, received_of, scene, ReceivesAt, HandlesEventAt};
 
-use crate::hearing::hear;
+use crate::lane_context::LaneContext;
 use crate::lanes::Lanes;
+use crate::messages::handle_message;
 use crate::origin::{Origin, Received};
-use crate::speaker::Speaker;
 use hdl_events::{Event, Outcome, What};
 use hdl_frame::{ENVELOPE_LEN, Envelope, Frame, one_datagram};
 use hdl_limits::Octets;
@@ -36,7 +36,7 @@ fn message_of(octets: Octets) -> Vec<u8>
 /// A piece of a message that came on an open lane. What came of its message before is forgotten once the whole message is
 /// answered; where that is refused it stands as it was.
 fn assemble<R: Masked>(
-    speaker: &Speaker<'_>,
+    lane_context: &LaneContext<'_>,
     rows: &mut R,
     lanes: &mut Lanes,
     origin: &Origin,
@@ -46,7 +46,7 @@ fn assemble<R: Masked>(
     requires frame { IsFrameOf frame.now.bytes.now frame.now }
     requires piece { is_truncated (envelope_at frame.now.bytes.now) ≡ true }
     requires envelope { origin.now.envelope ≡ envelope_at frame.now.bytes.now }
-    ensures assembled { IfOk result (λ reply. AssemblesAt (scene speaker.now (R.content rows.old) lanes.old) origin.now.lane (received_as origin.now frame.now.bytes.now) reply lanes.new (R.content rows.new)) }
+    ensures assembled { IfOk result (λ reply. AssemblesAt (scene lane_context.now (R.content rows.old) lanes.old) origin.now.lane (received_as origin.now frame.now.bytes.now) reply lanes.new (R.content rows.new)) }
     ensures read { IfOk result (λ reply. IfSome reply IsReplyFrame) }
     ensures undone { OnErr result (R.content rows.new ≡ R.content rows.old) }
     ensures unchanged { OnErr result (lanes.new ≡ lanes.old) }
@@ -58,7 +58,7 @@ fn assemble<R: Masked>(
     };
     match taken {
         Taken::Whole(message) => {
-            let reply = hear(speaker, rows, lanes, origin, message)?;
+            let reply = handle_message(lane_context, rows, lanes, origin, message)?;
             lanes.free(origin.lane, origin.peer, &origin.envelope);
             Ok(Some(reply))
         }
@@ -81,13 +81,13 @@ fn outcome_of(envelope: &Envelope, reply: Result<Option<Octets>, Refused>) -> Ou
 
 /// Octets that came on an open lane.
 fn receive<R: Masked>(
-    speaker: &Speaker<'_>,
+    lane_context: &LaneContext<'_>,
     rows: &mut R,
     lanes: &mut Lanes,
     received: Received,
 ) -> Outcome
     requires there { received.lane < length lanes.old }
-    ensures received { ReceivesAt (scene speaker.now (R.content rows.old) lanes.old) received.lane (received_of received) result lanes.new (R.content rows.new) }
+    ensures received { ReceivesAt (scene lane_context.now (R.content rows.old) lanes.old) received.lane (received_of received) result lanes.new (R.content rows.new) }
     ensures read { IsReadable result }
     ensures cost { ReadsWithin (R.content rows.old) proof_cost (R.reads rows.old) (R.reads rows.new) }
     ensures stranger { IsUnchallenged (state_at lanes.old received.lane) received.peer → ReadsWithin (R.content rows.old) anyone_cost (R.reads rows.old) (R.reads rows.new) }
@@ -111,25 +111,25 @@ fn receive<R: Masked>(
         envelope,
     };
     if envelope.is_truncated() {
-        let reply = assemble(speaker, rows, lanes, &origin, &frame);
+        let reply = assemble(lane_context, rows, lanes, &origin, &frame);
         return outcome_of(&envelope, reply);
     }
     let message = message_of(bytes);
-    match hear(speaker, rows, lanes, &origin, message) {
+    match handle_message(lane_context, rows, lanes, &origin, message) {
         Ok(reply) => Outcome::Reply(reply),
         Err(_) => Outcome::Busy(busy(&envelope)),
     }
 }
 
 /// Serves an event of a lane that somebody owns.
-pub(crate) fn serve<R: Masked>(
-    speaker: &Speaker<'_>,
+pub(crate) fn handle_event<R: Masked>(
+    lane_context: &LaneContext<'_>,
     rows: &mut R,
     lanes: &mut Lanes,
     event: Event,
 ) -> Outcome
     requires there { event.lane < length lanes.old }
-    ensures served { ServesAt (scene speaker.now (R.content rows.old) lanes.old) event.lane event.what result lanes.new (R.content rows.new) }
+    ensures served { HandlesEventAt (scene lane_context.now (R.content rows.old) lanes.old) event.lane event.what result lanes.new (R.content rows.new) }
     ensures read { IsReadable result }
     ensures cost { ReadsWithin (R.content rows.old) proof_cost (R.reads rows.old) (R.reads rows.new) }
     ensures stranger { IsStranger (state_at lanes.old event.lane) event.what → ReadsWithin (R.content rows.old) anyone_cost (R.reads rows.old) (R.reads rows.new) }
@@ -137,11 +137,11 @@ pub(crate) fn serve<R: Masked>(
     let Event { lane, what } = event;
     match what {
         What::Open => {
-            lanes.renew(lane, true);
+            lanes.reset(lane, true);
             Outcome::Silent
         }
         What::Close => {
-            lanes.renew(lane, false);
+            lanes.reset(lane, false);
             Outcome::Silent
         }
         What::Bad { session, request } => {
@@ -166,7 +166,7 @@ pub(crate) fn serve<R: Masked>(
                 nonce,
                 bytes,
             };
-            receive(speaker, rows, lanes, received)
+            receive(lane_context, rows, lanes, received)
         }
     }
 }

@@ -131,10 +131,10 @@ impl<A: Owing, B: Owing> Owing for EitherRows<A, B> {
         }
     }
 
-    fn let_write(&mut self, may_write: bool) {
+    fn set_may_write(&mut self, may_write: bool) {
         match self {
-            EitherRows::First(rows) => rows.let_write(may_write),
-            EitherRows::Second(rows) => rows.let_write(may_write),
+            EitherRows::First(rows) => rows.set_may_write(may_write),
+            EitherRows::Second(rows) => rows.set_may_write(may_write),
         }
     }
 }

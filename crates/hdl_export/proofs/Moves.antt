@@ -23,7 +23,7 @@ use Rattle.hdl_laws.proofs.Maps.{get-retained, contains-retained, each_value}
 use Rattle.hdl_core.specs.Opening.{entry_of, opening_table}
 use Rattle.hdl_export.specs.Prefixes.{AreAmong}
 use Rattle.hdl_export.specs.Rows.{is_among, is_written, rows_at, rows_under, rows_in, foreign_at, foreign_rows}
-use Rattle.hdl_export.specs.Laws.{IsSayable}
+use Rattle.hdl_export.specs.Laws.{IsExpressible}
 use Rattle.hdl_export.proofs.Walks.{any_mapped, any_there}
 use Rattle.hdl_export.proofs.Feeds.{all_joined}
 
@@ -146,7 +146,7 @@ module _ (t : Table) where
 
 -- ---- the rows that are written
 
-module _ (prefixes : List (List ℕ)) (t : Table) (say : IsSayable prefixes t) where
+module _ (prefixes : List (List ℕ)) (t : Table) (say : IsExpressible prefixes t) where
   row_of : (p : Place) (v : Value) → at t p ≡ Some v → (h : List ℕ) → canonical h ≡ p.handle → IsRowOf t (h, v)
   row_of p v is h same =
       let here : place (h, v) ≡ p = λ i. record { handle = same i; index = say.indexed p v is i } in

@@ -14,7 +14,7 @@ use Rattle.hdl_value.specs.Fault.{IsSound}
 use Rattle.hdl_tenants.specs.Register.{Row}
 use Rattle.hdl_tenants.specs.Lines.{fields_of}
 use Rattle.hdl_tenants.specs.Text.{opened, IsLine}
-use Rattle.hdl_export.specs.Lines.{Lacks, is_sayable, value_line, IsWritable}
+use Rattle.hdl_export.specs.Lines.{Lacks, is_expressible, value_line, IsWritable}
 use Rattle.hdl_export.specs.Laws.{IsWritableRow}
 use Rattle.hdl_export.proofs.LinesRead.{split_at, split_last, lacks_joined}
 
@@ -27,17 +27,17 @@ not_true false h = refl
 abbrev is_said : ℕ → Bool
 is_said octet = not (octet == 32) && not (octet == 10)
 
-handle_lacks_space : (handle : List ℕ) → is_sayable handle ≡ true → Lacks 32 handle
+handle_lacks_space : (handle : List ℕ) → is_expressible handle ≡ true → Lacks 32 handle
 handle_lacks_space [] h = tt
 handle_lacks_space (octet ∷ handle) h =
-    let both = and_parts (is_said octet) (is_sayable handle) h in
+    let both = and_parts (is_said octet) (is_expressible handle) h in
     let each = and_parts (not (octet == 32)) (not (octet == 10)) both.0 in
     (not_true (octet == 32) each.0, handle_lacks_space handle both.1)
 
-handle_lacks_feed : (handle : List ℕ) → is_sayable handle ≡ true → Lacks 10 handle
+handle_lacks_feed : (handle : List ℕ) → is_expressible handle ≡ true → Lacks 10 handle
 handle_lacks_feed [] h = tt
 handle_lacks_feed (octet ∷ handle) h =
-    let both = and_parts (is_said octet) (is_sayable handle) h in
+    let both = and_parts (is_said octet) (is_expressible handle) h in
     let each = and_parts (not (octet == 32)) (not (octet == 10)) both.0 in
     (not_true (octet == 10) each.1, handle_lacks_feed handle both.1)
 

@@ -14,7 +14,7 @@ use Rattle.hdl_reach.specs.Laws.{IsOnward}
 use Rattle.hdl_laws.specs.Isolation.{Covers, EachCovered}
 use Rattle.hdl_tenants.specs.Register.{Register, Row, prefixes_of}
 use Rattle.hdl_tenants.specs.Text.{IsAccepted}
-use Rattle.hdl_export.specs.Lines.{Lacks, is_sayable, value_line, with_line_end, text_of, is_other, IsWritable}
+use Rattle.hdl_export.specs.Lines.{Lacks, is_expressible, value_line, with_line_end, text_of, is_other, IsWritable}
 use Rattle.hdl_export.specs.Prefixes.{AreAmong}
 use Rattle.hdl_export.specs.Covers.{AreReferred, AreLed}
 use Rattle.hdl_export.specs.Rows.{is_among, is_written, values_at, rows_at, rows_under, rows_in, foreign_rows, line_text, handle_text, authority_text, AreWritable, AreWritableUnder}
@@ -51,7 +51,7 @@ module _ (prefixes : List (List ℕ)) (t : Table) where
   pub rows_texts : (authorities : List (List ℕ)) → flat_map (authority_text prefixes t) authorities ≡ text_of (map value_line (rows_in prefixes authorities t))
   rows_texts authorities = texts_flat (authority_text prefixes t) (rows_under prefixes t) under authorities
 
-  values_writable : (handle : List ℕ) → IsTrue (is_sayable handle) → (vs : List Value) → AllByRecursion IsWritable vs → AllByRecursion IsWritableRow (map (λ v. (handle, v)) vs)
+  values_writable : (handle : List ℕ) → IsTrue (is_expressible handle) → (vs : List Value) → AllByRecursion IsWritable vs → AllByRecursion IsWritableRow (map (λ v. (handle, v)) vs)
   values_writable handle s [] h = tt
   values_writable handle s (v ∷ vs) h = (record { handle = s; value = h.0 }, values_writable handle s vs h.1)
 
@@ -59,7 +59,7 @@ module _ (prefixes : List (List ℕ)) (t : Table) where
   handle_writable handle h = by (is_written prefixes handle) refl h
     where
       by : (b : Bool) → is_written prefixes handle ≡ b → AllByRecursion IsWritable (cond b (values_of t (canonical handle)) []) → AllByRecursion IsWritableRow (map (λ v. (handle, v)) (cond b (values_of t (canonical handle)) []))
-      by true e k = values_writable handle (and_parts (is_sayable handle) (is_among (prefix handle) prefixes) e).0 (values_of t (canonical handle)) k
+      by true e k = values_writable handle (and_parts (is_expressible handle) (is_among (prefix handle) prefixes) e).0 (values_of t (canonical handle)) k
       by false e k = tt
 
   under_writable : (authority : List ℕ) → AreWritableUnder prefixes t authority → AllByRecursion IsWritableRow (rows_under prefixes t authority)

@@ -11,7 +11,7 @@ use Rattle.hdl_rows.specs.Table as table
 use Rattle.hdl_tenants.specs.Lines.{fields_of}
 use Rattle.hdl_tenants.specs.Register.{Register, Row, IsRegister, prefixes_of}
 use Rattle.hdl_tenants.specs.Text.{opened, place_of, IsLine, IsAccepted}
-use Rattle.hdl_export.specs.Lines.{Lacks, is_sayable, value_line, text_of, is_other, IsWritable}
+use Rattle.hdl_export.specs.Lines.{Lacks, is_expressible, value_line, text_of, is_other, IsWritable}
 use Rattle.hdl_reach.specs.Laws.{IsOnward}
 use Rattle.hdl_laws.specs.Worlds.{World, with_table, hosts}
 use Rattle.hdl_laws.specs.Steps.{Turn}
@@ -29,7 +29,7 @@ LinesAreRead = (ls : List (List ℕ)) → AllByRecursion (Lacks 10) ls → lines
 
 -- a row whose handle can stand in a line, and whose value is octets
 pub record IsWritableRow (row : Row) : Type 0 where
-  pub handle : IsTrue (is_sayable row.0)
+  pub handle : IsTrue (is_expressible row.0)
   pub value : IsWritable row.1
 
 -- what the line of a row says is this row
@@ -107,11 +107,11 @@ pub record IsPublisherExport (texts : List (List ℕ)) (name : List ℕ) (t : Ta
 
 -- The table is one that the service makes: values stand at handles that are there, in canonical form, each at its own index. A text says each
 -- handle with one of these prefixes: it has a value, and a line can name it.
-pub record IsSayable (prefixes : List (List ℕ)) (t : Table) : Type 0 where
+pub record IsExpressible (prefixes : List (List ℕ)) (t : Table) : Type 0 where
   pub placed : IsPlaced t
   pub canonical : (h : List ℕ) → has t h ≡ true → canonical h ≡ h
   pub indexed : (p : Place) (v : Value) → at t p ≡ Some v → v.index ≡ p.index
-  pub named : (h : List ℕ) → has t h ≡ true → IsTrue (is_among (prefix h) prefixes) → IsTrue (is_sayable h)
+  pub named : (h : List ℕ) → has t h ≡ true → IsTrue (is_among (prefix h) prefixes) → IsTrue (is_expressible h)
   pub valued : (h : List ℕ) → has t h ≡ true → IsTrue (is_among (prefix h) prefixes) → (i : ℕ) × (v : Value) × (at t (table.place h i) ≡ Some v)
 
 -- Over the table of the second text a publisher has what it had. Both texts say the same lanes, prefixes and site information; the places are a cover for it at the
@@ -127,7 +127,7 @@ pub record IsMoved (w : World) (u : ℕ) (cover : List Place) (old new : Registe
 -- A publisher's export moves the publisher of its name, in each world with the table that was exported and the prefixes of the text that was given.
 abbrev pub PublisherMoves : Type 0
 PublisherMoves =
-    (texts : List (List ℕ)) (name : List ℕ) (t : Table) (out : List ℕ) (x : IsPublisherExport texts name t out) (s : Register) → IsAccepted (lines out) s → IsSayable (prefixes_for name texts) t
+    (texts : List (List ℕ)) (name : List ℕ) (t : Table) (out : List ℕ) (x : IsPublisherExport texts name t out) (s : Register) → IsAccepted (lines out) s → IsExpressible (prefixes_for name texts) t
     → (w : World) → w.table ≡ t → w.site.hostings ≡ x.register.hostings → IsMoved w (place_of name x.register.publishers) x.cover x.register s
 
 -- A publisher that moved is answered alike: runs from the world as it was and with the table of the second text give it equal outcomes, where its

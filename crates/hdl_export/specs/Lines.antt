@@ -14,8 +14,8 @@ Lacks stop octets = AllByRecursion (λ octet. (octet == stop) ≡ false) octets
 -- ---- a value
 
 -- a line can name the handle: no space divides it, and no line feed
-abbrev pub is_sayable : List ℕ → Bool
-is_sayable handle = list_all (λ octet. not (octet == 32) && not (octet == 10)) handle
+abbrev pub is_expressible : List ℕ → Bool
+is_expressible handle = list_all (λ octet. not (octet == 32) && not (octet == 10)) handle
 
 -- the line of a row: `value`, the handle, and the digits of the value's spelling
 abbrev pub value_line : Row → List ℕ

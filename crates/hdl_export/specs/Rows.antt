@@ -7,7 +7,7 @@ use Rattle.hdl_value.specs.declared.value.Value.{Value}
 use Rattle.hdl_value.specs.Place.{Place}
 use Rattle.hdl_rows.specs.Table.{Table, at, values_of, names_of}
 use Rattle.hdl_tenants.specs.Register.{Row}
-use Rattle.hdl_export.specs.Lines.{is_sayable, value_line, with_line_end, IsWritable}
+use Rattle.hdl_export.specs.Lines.{is_expressible, value_line, with_line_end, IsWritable}
 
 -- the prefix is one of these
 abbrev pub is_among : List ℕ → List (List ℕ) → Bool
@@ -15,7 +15,7 @@ is_among prefix prefixes = list_any (λ p. bytes_eq prefix p) prefixes
 
 -- the handle has one of these prefixes, and a line can name it
 abbrev pub is_written : List (List ℕ) → List ℕ → Bool
-is_written prefixes handle = is_sayable handle && is_among (prefix handle) prefixes
+is_written prefixes handle = is_expressible handle && is_among (prefix handle) prefixes
 
 -- the values of a handle that are written, by rising index
 abbrev pub values_at : List (List ℕ) → Table → List ℕ → List Value

@@ -18,7 +18,7 @@ pub enum ExportFault {
     Row,
     /// A value on which a publisher's answers rest stands at a handle that no line can name.
     #[error("no text says this publisher: its values refer to a list or key whose handle has a space or line feed in its name")]
-    Unsayable,
+    Inexpressible,
     /// The text that was given has this first faulty line, counted from 1.
     #[error("tenants: line {line}: {fault}")]
     Given { line: usize, fault: TenantFault },

@@ -10,7 +10,7 @@ ghost use Rattle.hdl_export.specs.Rows.{foreign_at, foreign_rows};
 ghost use Rattle.hdl_export.specs.Laws.{IsWritableRow};
 
 use crate::fault::ExportFault;
-use crate::line::{is_sayable, put_line, value_line};
+use crate::line::{is_expressible, put_line, value_line};
 use crate::prefixes::is_among;
 use crate::rows::name_of;
 use hdl_rows::Rows;
@@ -27,8 +27,8 @@ fn put_value(
     ensures put { OnOk result (out.new.items ≡ out.old.items ++ lines.with_line_end (lines.value_line (handle.now, value.now))) }
     ensures writable { OnOk result (IsWritableRow (handle.now, value.now)) }
 {
-    if !is_sayable(handle) {
-        return Err(ExportFault::Unsayable);
+    if !is_expressible(handle) {
+        return Err(ExportFault::Inexpressible);
     }
     let line = value_line(alloc, handle, value)?;
     put_line(out, line.as_slice())?;

@@ -1,7 +1,7 @@
 //! What no tenants text says of a table.
 
 use crate::fault::ExportFault;
-use crate::line::is_sayable;
+use crate::line::is_expressible;
 use crate::prefixes::{ADMIN_AUTHORITY, authorities_of, is_among, prefixes_for, prefixes_of};
 use crate::rows::name_of;
 use hdl_limits::Octets;
@@ -17,7 +17,7 @@ pub struct LeftOut {
     /// How many handles have no value.
     pub empty: u64,
     /// Those with a value, whose name has a space or a line feed.
-    pub unsayable: u64,
+    pub inexpressible: u64,
     /// The first of all these, ten at most.
     pub named: Vec<Octets>,
 }
@@ -36,8 +36,8 @@ fn count_handle<R: Rows>(
     }
     if rows.values(&name)?.is_empty() {
         left.empty = left.empty.saturating_add(1);
-    } else if !is_sayable(handle) {
-        left.unsayable = left.unsayable.saturating_add(1);
+    } else if !is_expressible(handle) {
+        left.inexpressible = left.inexpressible.saturating_add(1);
     } else {
         return Ok(());
     }
@@ -73,7 +73,7 @@ fn left_under<R: Rows>(
     let authorities = authorities_of(alloc, prefixes)?;
     let mut left = LeftOut {
         empty: 0,
-        unsayable: 0,
+        inexpressible: 0,
         named: Vec::new(alloc),
     };
     for authority in &authorities {

@@ -14,8 +14,8 @@ use std::alloc::{AllocError, Global};
 const FIELD_MAX: usize = u32::MAX as usize;
 
 /// Whether a line can name the handle: no space divides it, and no line feed.
-pub(crate) fn is_sayable(handle: &[u8]) -> bool
-    ensures { result ≡ lines.is_sayable handle.now }
+pub(crate) fn is_expressible(handle: &[u8]) -> bool
+    ensures { result ≡ lines.is_expressible handle.now }
 {
     handle.iter().all(|octet| *octet != b' ' && *octet != b'\n')
 }

@@ -6,7 +6,7 @@ ghost use Rattle.hdl_export.specs.Lines.{IsWritable};
 ghost use Rattle.hdl_export.specs.Rows.{line_text, handle_text, authority_text, AreWritable, AreWritableUnder};
 
 use crate::fault::ExportFault;
-use crate::line::{is_sayable, put_line, value_line};
+use crate::line::{is_expressible, put_line, value_line};
 use crate::prefixes::is_among;
 use hdl_limits::Octets;
 use hdl_name::{Name, NameFault};
@@ -55,7 +55,7 @@ fn put_handle<R: Rows>(
     ensures writable { OnOk result (AreWritable (map (λ p. p.now) prefixes.now) (R.content rows.old) handle.now) }
 {
     let name = name_of(alloc, handle)?;
-    if !is_sayable(handle) || !is_among(name.prefix(), prefixes) {
+    if !is_expressible(handle) || !is_among(name.prefix(), prefixes) {
         return Ok(());
     }
     let values = rows.values(&name)?;

@@ -2,7 +2,7 @@
 use Rattle.std.proofs.Common.{◌≡◌, ◌∙◌, ◌<◌, ◌+◌, ◌++◌, ◌∷◌, [], ap, sym, refl, arith, ℕ, List, length, drop, drop-cons, get_or, suc, add-one}
 use Rattle.std.specs.List.{flat_map}
 use Rattle.std.proofs.lemmas.List.{append_assoc}
-use Rattle.hdl_copied.specs.declared.listed.ListedHandle.{ListedHandle}
+use Rattle.hdl_copied_handles.specs.declared.listed.ListedHandle.{ListedHandle}
 use Rattle.hdl_forms.specs.Lists.{with_found, with_list}
 use Rattle.hdl_forms.specs.Template.{filled}
 

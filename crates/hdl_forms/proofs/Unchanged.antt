@@ -5,11 +5,11 @@ use Rattle.hdl_value.specs.declared.value.Value.{Value}
 use Rattle.hdl_proxy.specs.declared.answer.Answer.{Answer}
 use Rattle.hdl_proxy.specs.declared.answer.Status.{Status}
 use Rattle.hdl_proxy.specs.declared.answer.Status.TheVariants.{Success, Created, NoContent, Found, NotModified, BadRequest, Unauthorized, Forbidden, NotFound, MethodNotAllowed, RequestTimeout, Conflict, Gone, ContentTooLarge, BadGateway, Unavailable}
-use Rattle.hdl_writes.specs.declared.order.Order.{Order}
-use Rattle.hdl_writes.specs.Exchange.{Exchange}
-use Rattle.hdl_writes.specs.Orders.{CarriesOrder}
-use Rattle.hdl_writes.specs.Present.{TriesValue, said_in}
-use Rattle.hdl_writes.specs.Sending.{says_done}
+use Rattle.hdl_rest.specs.declared.order.Order.{Order}
+use Rattle.hdl_rest.specs.Exchange.{Exchange}
+use Rattle.hdl_rest.specs.Orders.{CarriesOrder}
+use Rattle.hdl_rest.specs.Present.{TriesValue, said_in}
+use Rattle.hdl_rest.specs.Sending.{says_done}
 use Rattle.hdl_forms.specs.declared.draft.Draft.{Draft}
 use Rattle.hdl_forms.specs.Guarded.{CarriesUnchanged, IsAsShown, SaysUndone}
 use Rattle.hdl_forms.specs.Pages.{IsFormPage}

@@ -3,13 +3,13 @@ use Rattle.std.specs.Prelude.{◌≡◌, ◌⊎◌, ℕ, Bool, true, false, if�
 use Rattle.std.specs.Int.{w16, w32, to_be_bytes}
 use Rattle.hdl_value.specs.declared.value.Value.{Value}
 use Rattle.hdl_value.specs.Spelling.{reference}
-use Rattle.hdl_lines.specs.Fields.{IsReferenceOf}
+use Rattle.hdl_value_lines.specs.Fields.{IsReferenceOf}
 use Rattle.hdl_client.specs.declared.challenge.Key.{Key}
 use Rattle.hdl_proxy.specs.Json.{IsJsonOf}
-use Rattle.hdl_writes.specs.declared.order.Act.{Act}
-use Rattle.hdl_writes.specs.declared.order.Act.TheVariants as acts
-use Rattle.hdl_writes.specs.declared.order.WriteMode.{WriteMode}
-use Rattle.hdl_writes.specs.declared.order.WriteMode.TheVariants as modes
+use Rattle.hdl_rest.specs.declared.order.ChangeAction.{ChangeAction}
+use Rattle.hdl_rest.specs.declared.order.ChangeAction.TheVariants as acts
+use Rattle.hdl_rest.specs.declared.order.WriteMode.{WriteMode}
+use Rattle.hdl_rest.specs.declared.order.WriteMode.TheVariants as modes
 use Rattle.hdl_forms.specs.Draft.{is_remove}
 use Rattle.hdl_forms.specs.declared.draft.Draft.{Draft}
 use Rattle.hdl_forms.specs.declared.draft.Task.{Task}
@@ -52,16 +52,16 @@ way_of tasks.Create = modes.Create
 abbrev pub among_of : Draft → Option (List ℕ)
 among_of d = if is_create d.task then None else Some (d.index ∷ [])
 
-abbrev pub IsPut : WriteMode → Option (List ℕ) → Act → Type 0
+abbrev pub IsPut : WriteMode → Option (List ℕ) → ChangeAction → Type 0
 IsPut way indexes (acts.Put w among) = (w ≡ way) × (option_map (λ v. v.items) among ≡ indexes)
 IsPut way indexes other = ⊥
 
-abbrev pub IsRemove : ℕ → Act → Type 0
+abbrev pub IsRemove : ℕ → ChangeAction → Type 0
 IsRemove index (acts.Remove v) = v.items ≡ index ∷ []
 IsRemove index other = ⊥
 
 -- what an order does: the value of this index is removed, or values are put
-abbrev pub IsActOf : Draft → Act → Type 0
+abbrev pub IsActOf : Draft → ChangeAction → Type 0
 IsActOf d a = ((is_remove d.task ≡ true) × IsRemove d.index a) ⊎ ((is_remove d.task ≡ false) × IsPut (way_of d.task) (among_of d) a)
 
 -- the record in JSON of these values; nothing where a value is removed

@@ -4,9 +4,9 @@ use Rattle.std.specs.List.{list_all}
 use Rattle.std.specs.Str.{bytes_eq}
 use Rattle.hdl_limits.specs.declared.TheConstants.{DATA_MAX, TYPE_MAX}
 use Rattle.hdl_value.specs.Reading.{◌>>=◌}
-use Rattle.hdl_lines.specs.Fields.{number_in, permissions_in}
+use Rattle.hdl_value_lines.specs.Fields.{number_in, permissions_in}
 use Rattle.hdl_proxy.specs.Url.{IsFollowed}
-use Rattle.hdl_writes.specs.Data.{◌>>>◌}
+use Rattle.hdl_rest.specs.Data.{◌>>>◌}
 use Rattle.hdl_forms.specs.declared.draft.Draft.{Draft}
 use Rattle.hdl_forms.specs.declared.draft.DraftFault.{DraftFault}
 use Rattle.hdl_forms.specs.declared.draft.DraftFault.TheVariants as fault

@@ -4,11 +4,11 @@ use Rattle.std.specs.Int.{w32, to_be_bytes}
 use Rattle.hdl_value.specs.declared.value.Value.{Value}
 use Rattle.hdl_msg.specs.Message.{resolution}
 use Rattle.hdl_proxy.specs.declared.answer.Answer.{Answer}
-use Rattle.hdl_writes.specs.declared.order.Order.{Order}
-use Rattle.hdl_writes.specs.Exchange.{Exchange, Asks}
-use Rattle.hdl_writes.specs.Orders.{CarriesOrder}
-use Rattle.hdl_writes.specs.Present.{Presents}
-use Rattle.hdl_writes.specs.Sending.{says_done}
+use Rattle.hdl_rest.specs.declared.order.Order.{Order}
+use Rattle.hdl_rest.specs.Exchange.{Exchange, Asks}
+use Rattle.hdl_rest.specs.Orders.{CarriesOrder}
+use Rattle.hdl_rest.specs.Present.{Presents}
+use Rattle.hdl_rest.specs.Sending.{says_done}
 use Rattle.hdl_forms.specs.declared.draft.Draft.{Draft}
 use Rattle.hdl_forms.specs.declared.draft.Task.{Task}
 use Rattle.hdl_forms.specs.declared.draft.Task.TheVariants as tasks

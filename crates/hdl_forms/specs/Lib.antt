@@ -2,7 +2,7 @@ pub mod Change
 pub mod Draft
 pub mod Guarded
 pub mod Lists
-pub mod Offer
+pub mod FormLink
 pub mod Origin
 pub mod Pages
 pub mod Taken

@@ -1,19 +1,19 @@
 -- The list of a prefix's handles: its form, the order by which a server is asked whether a key may list them, and its page.
 use Rattle.std.specs.Prelude.{◌≡◌, ◌≤◌, ⊤, ℕ, Bool, true, false, List, [], ◌∷◌, ◌++◌, length, flat_map, slice_get, unwrap_or, codes, decimal, Option, Some, None, Result, IfOk}
-use Rattle.hdl_lines.specs.Fields.{number_in}
+use Rattle.hdl_value_lines.specs.Fields.{number_in}
 use Rattle.hdl_proxy.specs.Link.{path_to}
 use Rattle.hdl_proxy.specs.declared.answer.Answer.{Answer}
 use Rattle.hdl_proxy.specs.declared.answer.Status.{Status}
-use Rattle.hdl_writes.specs.declared.order.Act.{Act}
-use Rattle.hdl_writes.specs.declared.order.Act.TheVariants as acts
-use Rattle.hdl_writes.specs.declared.order.Order.{Order}
-use Rattle.hdl_writes.specs.Exchange.{Exchange}
-use Rattle.hdl_writes.specs.Leave.{TriesList}
-use Rattle.hdl_copied.specs.List.{IsPage}
-use Rattle.hdl_copied.specs.Search.{words_of}
-use Rattle.hdl_copied.specs.declared.list.ListPage.{ListPage}
-use Rattle.hdl_copied.specs.declared.listed.ListedHandle.{ListedHandle}
-use Rattle.hdl_copied.specs.declared.search.Search.{Search}
+use Rattle.hdl_rest.specs.declared.order.ChangeAction.{ChangeAction}
+use Rattle.hdl_rest.specs.declared.order.ChangeAction.TheVariants as acts
+use Rattle.hdl_rest.specs.declared.order.Order.{Order}
+use Rattle.hdl_rest.specs.Exchange.{Exchange}
+use Rattle.hdl_rest.specs.ListPermission.{TriesList}
+use Rattle.hdl_copied_handles.specs.List.{IsPage}
+use Rattle.hdl_copied_handles.specs.Search.{words_of}
+use Rattle.hdl_copied_handles.specs.declared.list.ListPage.{ListPage}
+use Rattle.hdl_copied_handles.specs.declared.listed.ListedHandle.{ListedHandle}
+use Rattle.hdl_copied_handles.specs.declared.search.Search.{Search}
 use Rattle.hdl_forms.specs.Change.{IsKeyOf}
 use Rattle.hdl_forms.specs.Draft.{Pairs}
 use Rattle.hdl_forms.specs.Pages.{IsFormPage}
@@ -42,7 +42,7 @@ pub record IsRequest (pairs : Pairs) (request : ListRequest) : Type 0 where
 abbrev pub AreFew : ListRequest → Type 0
 AreFew request = (length request.name ≤ WORDS_MOST) × (length request.url ≤ WORDS_MOST)
 
-abbrev pub IsListing : Act → Type 0
+abbrev pub IsListing : ChangeAction → Type 0
 IsListing (acts.List window) = ⊤
 IsListing other = ⊥
 

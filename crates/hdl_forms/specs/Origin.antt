@@ -15,6 +15,6 @@ names_host (Some origin) None = false
 names_host (Some origin) (Some host) = is_of_host host origin
 
 -- the field Sec-Fetch-Site says so; or there is none, and the field Origin is that of the host
-abbrev pub is_own : Option (List ℕ) → Option (List ℕ) → Option (List ℕ) → Bool
-is_own (Some site) origin host = bytes_eq site (codes "same-origin")
-is_own None origin host = names_host origin host
+abbrev pub is_same_origin : Option (List ℕ) → Option (List ℕ) → Option (List ℕ) → Bool
+is_same_origin (Some site) origin host = bytes_eq site (codes "same-origin")
+is_same_origin None origin host = names_host origin host

@@ -4,9 +4,9 @@ use Rattle.std.specs.Str.{bytes_eq}
 use Rattle.hex.specs.Hex.{encode_lower}
 use Rattle.sha2.specs.Sha256.{sha256}
 use Rattle.hdl_value.specs.Reading.{◌>>=◌}
-use Rattle.hdl_lines.specs.Fields.{cut_at, number_in}
+use Rattle.hdl_value_lines.specs.Fields.{cut_at, number_in}
 use Rattle.hdl_forms.specs.declared.token.TokenKey.{TokenKey}
-use Rattle.hdl_forms.specs.declared.token.TheConstants.{FORM_LIFE}
+use Rattle.hdl_forms.specs.declared.token.TheConstants.{FORM_LIFE_SECONDS}
 
 -- the digest of a text under a key
 unfoldable pub seal : TokenKey → List ℕ → List ℕ
@@ -26,7 +26,7 @@ moment_in token = cut_at 45 token >>= λ x. number_in x.0
 
 -- it isn't to come, and less than FORM_LIFE seconds have passed
 abbrev pub is_fresh : ℕ → ℕ → Bool
-is_fresh now moment = nat_le moment now && nat_lt (now - moment) FORM_LIFE
+is_fresh now moment = nat_le moment now && nat_lt (now - moment) FORM_LIFE_SECONDS
 
 abbrev pub accepts_at : TokenKey → List ℕ → ℕ → List ℕ → Option ℕ → Bool
 accepts_at key subject now token None = false

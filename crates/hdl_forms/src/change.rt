@@ -1,18 +1,18 @@
 //! The order that a form with a key is.
 
 ghost use Rattle.std.specs.Prelude.{◌≡◌, ◌<◌, ◌^◌, ◌∷◌, [], length, option_map, IfOk, IfSome};
-ghost use Rattle.hdl_lines.specs.Fields.{IsReferenceOf};
+ghost use Rattle.hdl_value_lines.specs.Fields.{IsReferenceOf};
 ghost use Rattle.hdl_proxy.specs.Json.{IsJsonOf};
 ghost use Rattle.hdl_forms.specs.Change.{IsActOf, IsBodyOf, IsKeyOf, admin_value, among_of, is_create, value_of, values_of, way_of};
 
 use crate::draft::{Draft, Task, is_remove};
 use hdl_client::Key;
 use hdl_limits::Octets;
-use hdl_lines::read_reference;
 use hdl_name::Name;
-use hdl_proxy::{Answer, Keeping, values_answer};
+use hdl_proxy::{Answer, CacheControl, values_answer};
+use hdl_rest::{ChangeAction, Order, WriteMode};
 use hdl_value::{HS_ADMIN, RawRefs, Value, put_string, put_u16, put_u32};
-use hdl_writes::{Act, Order, WriteMode};
+use hdl_value_lines::read_reference;
 use std::alloc::{AllocError, Global};
 
 /// All permissions of an administrator.
@@ -22,7 +22,7 @@ const ALL: u16 = 4095;
 const ADMIN_INDEX: u32 = 100;
 
 /// How long values of a new handle may be kept, in seconds.
-const DAY: u32 = 86_400;
+const DAY_SECONDS: u32 = 86_400;
 
 /// Public values that administrators may change.
 const PUBLIC: u8 = 0b1110;
@@ -95,7 +95,7 @@ fn admin_value(alloc: Global, index: u32, handle: &[u8]) -> Result<Value, AllocE
     put_u16(&mut data, ALL)?;
     put_string(&mut data, handle)?;
     put_u32(&mut data, index)?;
-    let [a, b, c, d] = DAY.to_be_bytes();
+    let [a, b, c, d] = DAY_SECONDS.to_be_bytes();
     Ok(Value {
         index: ADMIN_INDEX,
         kind: octets(alloc, HS_ADMIN)?,
@@ -161,15 +161,15 @@ fn among_of(alloc: Global, draft: &Draft) -> Result<Option<Vec<u32>>, AllocError
 }
 
 /// What the order does.
-fn act_of(alloc: Global, draft: &Draft) -> Result<Act, AllocError>
+fn act_of(alloc: Global, draft: &Draft) -> Result<ChangeAction, AllocError>
     ensures { IfOk result (IsActOf draft.now) }
 {
     if is_remove(draft.task) {
         let indexes = only(alloc, draft.index)?;
-        return Ok(Act::Remove { indexes });
+        return Ok(ChangeAction::Remove { indexes });
     }
     let among = among_of(alloc, draft)?;
-    Ok(Act::Put {
+    Ok(ChangeAction::Put {
         way: way_of(draft.task),
         among,
     })
@@ -187,7 +187,7 @@ fn record_of(
     ensures { IfOk result (λ body. IsJsonOf name.now (values_of draft.now index handle.now) body.items) }
 {
     let values = values_of(alloc, draft, index, handle)?;
-    let Answer { body, .. } = values_answer(alloc, name, &values, Keeping::Never)?;
+    let Answer { body, .. } = values_answer(alloc, name, &values, CacheControl::Never)?;
     Ok(body)
 }
 

@@ -6,8 +6,8 @@ ghost use Rattle.hdl_proxy.specs.Query.{texts_of};
 ghost use Rattle.hdl_forms.specs.Draft.{IsDraftFault, IsUsable, are_printed, draft_in, first_named, index_in, index_of, is_free, is_own_type, is_printed, is_remove, is_reserved, is_type, kind_in, kind_of, line_in, old_of, permissions_of, task_named, task_of, text_of, ttl_of};
 
 use hdl_limits::{DATA_MAX, Octets, TYPE_MAX};
-use hdl_lines::{number_in, permissions_in};
 use hdl_proxy::{Pair, is_followed};
+use hdl_value_lines::{number_in, permissions_in};
 use std::alloc::{AllocError, Global};
 
 /// The type of a value that says why its handle leads nowhere any more.

@@ -5,7 +5,7 @@ ghost use Rattle.hdl_proxy.specs.Query.{texts_of};
 ghost use Rattle.hdl_proxy.specs.declared.answer.Status.{Status};
 ghost use Rattle.hdl_proxy.specs.declared.answer.Status.TheVariants.{Success, Forbidden};
 ghost use Rattle.hdl_forms.specs.Draft.{draft_in};
-ghost use Rattle.hdl_forms.specs.Origin.{is_own};
+ghost use Rattle.hdl_forms.specs.Origin.{is_same_origin};
 ghost use Rattle.hdl_forms.specs.Pages.{IsFormPage};
 ghost use Rattle.hdl_forms.specs.Taken.{IsOrderOf, IsStep, about, fields_of, page_status, subject_of, text_in};
 ghost use Rattle.hdl_forms.specs.Token.{accepts};
@@ -13,7 +13,7 @@ ghost use Rattle.hdl_forms.specs.Token.{accepts};
 use crate::change::{FormOrder, TypedKey, order_of};
 use crate::draft::{first_named, read_draft};
 use crate::fault::{Fault, Field, NO_FAULT, fault_of_draft, fault_of_key, fault_of_name};
-use crate::origin::{Sender, is_own};
+use crate::origin::{Sender, is_same_origin};
 use crate::pages::{
     FieldTexts, FilledForm, confirm_page, create_page, done_page, faulty_page, refused_page,
     values_page,
@@ -22,8 +22,8 @@ use crate::token::TokenKey;
 use hdl_msg::ResponseCode;
 use hdl_name::Name;
 use hdl_proxy::{
-    Answer, Form, Found, Keeping, NoAnswer, Pair, Question, Status, finish, has_pair, read_answer,
-    read_name, read_pairs, unescape,
+    Answer, AnswerFormat, CacheControl, Found, NoAnswer, Pair, Question, Status, finish, has_pair,
+    read_answer, read_name, read_pairs, unescape,
 };
 use serde_json::Value as Json;
 use std::alloc::{AllocError, Global};
@@ -98,7 +98,7 @@ pub fn form_at(alloc: Global, path: &str, query: &str) -> Result<Option<FormPlac
 pub fn form_question(alloc: Global, name: Name) -> Question {
     Question {
         name,
-        form: Form::Page,
+        form: AnswerFormat::Page,
         indexes: Vec::new(alloc),
         types: Vec::new(alloc),
         append: Vec::new(alloc),
@@ -106,7 +106,7 @@ pub fn form_question(alloc: Global, name: Name) -> Question {
         aliases: false,
         passed: Vec::new(alloc),
         tried: Vec::new(alloc),
-        keeping: Keeping::Never,
+        cache_control: CacheControl::Never,
         anew: true,
     }
 }
@@ -276,15 +276,15 @@ fn take_fields(
 }
 
 /// The page that refuses a form of another site's page; it leads to the form at this address. None where it comes from this site.
-pub fn refuse_foreign(
+pub fn refuse_cross_origin(
     alloc: Global,
     address: &'static str,
     sender: Sender<'_>,
 ) -> Result<Option<Answer>, AllocError>
-    ensures own { is_own (option_copied sender.entry.site) (option_copied sender.entry.origin) (option_copied sender.entry.host) ≡ true → IfOk result (λ page. page ≡ None) }
-    ensures foreign { is_own (option_copied sender.entry.site) (option_copied sender.entry.origin) (option_copied sender.entry.host) ≡ false → IfOk result (λ page. IsSomeAnd page (IsFormPage Forbidden)) }
+    ensures own { is_same_origin (option_copied sender.entry.site) (option_copied sender.entry.origin) (option_copied sender.entry.host) ≡ true → IfOk result (λ page. page ≡ None) }
+    ensures foreign { is_same_origin (option_copied sender.entry.site) (option_copied sender.entry.origin) (option_copied sender.entry.host) ≡ false → IfOk result (λ page. IsSomeAnd page (IsFormPage Forbidden)) }
 {
-    if is_own(sender) {
+    if is_same_origin(sender) {
         return Ok(None);
     }
     let why = "This form came from another site";

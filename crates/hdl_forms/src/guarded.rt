@@ -2,8 +2,8 @@
 
 ghost use Rattle.std.specs.Prelude.{◌≡◌, ◌↔◌, IfOk, IsTrue};
 ghost use Rattle.hdl_proxy.specs.declared.answer.Status.{Status};
-ghost use Rattle.hdl_writes.specs.Orders.{CarriesOrder};
-ghost use Rattle.hdl_writes.specs.Since.{AskedSince};
+ghost use Rattle.hdl_rest.specs.Orders.{CarriesOrder};
+ghost use Rattle.hdl_rest.specs.Since.{AskedSince};
 ghost use Rattle.hdl_forms.specs.Guarded.{CarriesForm, IsAsShown, is_of_shown};
 ghost use Rattle.hdl_forms.specs.Pages.{IsFormPage};
 ghost use Rattle.hdl_forms.specs.Taken.{page_status};
@@ -12,8 +12,8 @@ use crate::draft::{Draft, Task};
 use crate::forms::result_page;
 use crate::pages::{FilledForm, conflict_page};
 use hdl_proxy::Answer;
+use hdl_rest::{ChangeServer, Order, carry_out, value_there};
 use hdl_value::Value;
-use hdl_writes::{ChangeServer, Order, carry_out, value_there};
 use std::alloc::{AllocError, Global};
 
 /// Whether a value is changed or removed that the form showed.

@@ -25,11 +25,11 @@
 mod change;
 mod draft;
 mod fault;
+mod form_link;
 mod forms;
 mod guarded;
 mod lists;
 mod markup;
-mod offer;
 mod origin;
 mod pages;
 mod template;
@@ -37,15 +37,15 @@ mod token;
 
 pub use change::{FormOrder, TypedFault, TypedKey, order_of};
 pub use draft::{Draft, DraftFault, Task, read_draft};
+pub use form_link::{FormLink, with_form_link};
 pub use forms::{
-    FormPlace, FormStep, SentForm, edit_page, form_at, form_question, new_page, refuse_foreign,
-    refuse_unread, result_page, take_form,
+    FormPlace, FormStep, SentForm, edit_page, form_at, form_question, new_page,
+    refuse_cross_origin, refuse_unread, result_page, take_form,
 };
 pub use guarded::carry_form;
 pub use lists::{
     LIST_ADDRESS, ListRequest, ListStep, carry_list, list_at, list_form, refused_list, take_list,
 };
-pub use offer::{Offer, with_offer};
-pub use origin::{Sender, is_own};
+pub use origin::{Sender, is_same_origin};
 pub use pages::FilledForm;
-pub use token::{FORM_LIFE, TokenKey};
+pub use token::{FORM_LIFE_SECONDS, TokenKey};

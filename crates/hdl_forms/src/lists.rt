@@ -4,7 +4,7 @@ ghost use Rattle.std.specs.Prelude.{◌≡◌, ◌++◌, ◌↔◌, true, IfOk, 
 ghost use Rattle.hdl_proxy.specs.Query.{pairs_of, texts_of};
 ghost use Rattle.hdl_proxy.specs.declared.answer.Status.{Status};
 ghost use Rattle.hdl_proxy.specs.declared.answer.Status.TheVariants.{Success};
-ghost use Rattle.hdl_writes.specs.Since.{AskedSince};
+ghost use Rattle.hdl_rest.specs.Since.{AskedSince};
 ghost use Rattle.hdl_forms.specs.Lists.{AreFew, CarriesList, HasForm, IsForm, IsListOf, IsListOrder, IsListStep, IsRequest, Seeks, Shows, buttons, name_at, place_in, row_at, url_at, with_found, with_list};
 ghost use Rattle.hdl_forms.specs.Pages.{IsFormPage};
 ghost use Rattle.hdl_forms.specs.Taken.{fields_of, page_status, text_in};
@@ -17,12 +17,12 @@ use crate::markup::Template;
 use crate::pages::answer_of;
 use crate::template::{FormPage, Texts};
 use crate::token::TokenKey;
-use hdl_copied::{ListPage, ListedHandle, Search, list_page, words_of};
+use hdl_copied_handles::{ListPage, ListedHandle, Search, list_page, words_of};
 use hdl_limits::Octets;
-use hdl_lines::number_in;
 use hdl_name::Name;
 use hdl_proxy::{Answer, Pair, Status, has_pair, path_of, read_name, read_pairs};
-use hdl_writes::{Act, ChangeServer, Order, Window, may_list};
+use hdl_rest::{ChangeAction, ChangeServer, Order, PageRange, may_list};
+use hdl_value_lines::number_in;
 use std::alloc::{AllocError, Global};
 
 /// Where the form of a list is.
@@ -187,8 +187,8 @@ fn order_in(
 {
     let key = text_at(pairs, "key");
     let secret = text_at(pairs, "secret");
-    let act = Act::List {
-        window: Some(Window { page: 0, size: 0 }),
+    let act = ChangeAction::List {
+        window: Some(PageRange { page: 0, size: 0 }),
     };
     match key_of(alloc, TypedKey { key, secret }) {
         Ok(key) => Ok(ListStep::Order(Order { name, key, act }, request)),

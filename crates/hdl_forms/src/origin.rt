@@ -1,7 +1,7 @@
 //! Which pages a form may come from.
 
 ghost use Rattle.std.specs.Prelude.{◌≡◌, option_copied};
-ghost use Rattle.hdl_forms.specs.Origin.{is_own, is_of_host, is_behind, names_host};
+ghost use Rattle.hdl_forms.specs.Origin.{is_same_origin, is_of_host, is_behind, names_host};
 
 /// What `Sec-Fetch-Site` says of a page of the same host.
 const SAME: &[u8] = b"same-origin";
@@ -42,8 +42,8 @@ fn names_host(origin: Option<&[u8]>, host: Option<&[u8]>) -> bool
 
 /// Whether a form comes from a page of this site: the browser says so by `Sec-Fetch-Site`, or where it sends no such field, by an `Origin` of this
 /// host. What says neither is refused.
-pub fn is_own(sender: Sender<'_>) -> bool
-    ensures { result ≡ is_own (option_copied sender.entry.site) (option_copied sender.entry.origin) (option_copied sender.entry.host) }
+pub fn is_same_origin(sender: Sender<'_>) -> bool
+    ensures { result ≡ is_same_origin (option_copied sender.entry.site) (option_copied sender.entry.origin) (option_copied sender.entry.host) }
 {
     match sender.site {
         Some(site) => site == SAME,

@@ -8,9 +8,9 @@ use crate::fault::{Fault, Field, NO_FAULT};
 use crate::markup::Template;
 use crate::template::{FormPage, Texts};
 use hdl_limits::Octets;
-use hdl_lines::permission_digits;
-use hdl_proxy::{Answer, Keeping, Media, Status, is_shown, path_of};
+use hdl_proxy::{Answer, CacheControl, Media, Status, is_shown, path_of};
 use hdl_value::Value;
+use hdl_value_lines::permission_digits;
 use std::alloc::{AllocError, Global};
 
 /// The kind of a TTL that is a moment.
@@ -55,7 +55,7 @@ pub(crate) fn answer_of(
         alloc,
         status,
         Media::Page,
-        Keeping::Never,
+        CacheControl::Never,
         page.into_octets(),
     );
     Ok(Answer { title, ..answer })

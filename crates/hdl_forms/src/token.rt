@@ -3,12 +3,12 @@
 ghost use Rattle.std.specs.Prelude.{◌≡◌, IfOk};
 ghost use Rattle.hdl_forms.specs.Token.{accepts, is_fresh, moment_in, seal, sealed_text, token_of};
 
-use hdl_lines::{cut_at, number_in};
+use hdl_value_lines::{cut_at, number_in};
 use sha2::{Digest, Sha256};
 use std::alloc::{AllocError, Global};
 
 /// How long a form may be sent after it was made, in seconds.
-pub const FORM_LIFE: u32 = 3600;
+pub const FORM_LIFE_SECONDS: u32 = 3600;
 
 /// Octets that no one can guess, with which tokens are made. They can't be printed.
 #[derive(Drop)]
@@ -63,7 +63,7 @@ impl TokenKey {
         Ok(token)
     }
 
-    /// Whether this is the token of a form for this, made at most [`FORM_LIFE`] seconds before now.
+    /// Whether this is the token of a form for this, made at most [`FORM_LIFE_SECONDS`] seconds before now.
     #[tactic(auto, unfolding(crate::specs::Token::accepts))]
     pub fn accepts(
         &self,
@@ -94,5 +94,5 @@ fn moment_in(token: &[u8]) -> Option<u32>
 fn is_fresh(now: u32, moment: u32) -> bool
     ensures { result ≡ is_fresh now moment }
 {
-    moment <= now && now - moment < FORM_LIFE
+    moment <= now && now - moment < FORM_LIFE_SECONDS
 }

@@ -1,6 +1,6 @@
 //! A guard, and what it is asked and informed of.
 
-use crate::guard::{Effect, Fate, Guard};
+use crate::guard::{Effect, Guard, WriteResult};
 use hdl_rows::{Owed, Owing};
 
 /// A guard, whether the call may have its turn, and the write that was begun last.
@@ -37,31 +37,36 @@ impl<G: Guard> Gate<G> {
     }
 
     /// Whether the write with this mark may be made. Where one is owed, or it isn't this call's turn, the table itself decides.
-    pub(crate) fn lets<R: Owing>(&mut self, rows: &R, effect: Effect, mark: u64) -> bool {
+    pub(crate) fn try_pass<R: Owing>(
+        &mut self,
+        rows: &R,
+        effect: Effect,
+        fingerprint: u64,
+    ) -> bool {
         if !self.may_write || !owes_nothing(rows) {
             return true;
         }
-        let may = self.guard.permits(effect);
+        let may = self.guard.authorize(effect);
         if may {
-            self.begun = mark;
+            self.begun = fingerprint;
         }
         may
     }
 
     /// A write isn't let through.
     pub(crate) fn forbid(&mut self) {
-        self.guard.note(Fate::Forbidden);
+        self.guard.note(WriteResult::Forbidden);
     }
 
     /// Tells the guard what became of the write with this mark.
-    pub(crate) fn tell<R: Owing>(&mut self, rows: &R, mark: u64, is_made: bool) {
+    pub(crate) fn tell<R: Owing>(&mut self, rows: &R, fingerprint: u64, is_made: bool) {
         if is_made {
-            self.guard.note(Fate::Made);
+            self.guard.note(WriteResult::Made);
         } else if self.may_write && owes_nothing(rows) {
-            self.guard.note(if mark == self.begun {
-                Fate::Failed
+            self.guard.note(if fingerprint == self.begun {
+                WriteResult::Failed
             } else {
-                Fate::Deferred
+                WriteResult::Deferred
             });
         }
     }

@@ -11,7 +11,7 @@ pub enum Effect {
 
 /// What became of a write.
 #[derive(Clone, Copy, Debug, PartialEq, Eq)]
-pub enum Fate {
+pub enum WriteResult {
     /// It was made.
     Made,
     /// The table refused it, and owes nothing for it: it is as it was.
@@ -25,8 +25,8 @@ pub enum Fate {
 /// Who is asked before each write, and hears what became of it.
 pub trait Guard {
     /// Whether a write with this effect may be made. While a write is owed the guard isn't asked: the write goes on.
-    fn permits(&mut self, effect: Effect) -> bool;
+    fn authorize(&mut self, effect: Effect) -> bool;
 
     /// This became of a write.
-    fn note(&mut self, fate: Fate);
+    fn note(&mut self, fate: WriteResult);
 }

@@ -3,9 +3,9 @@
 ghost use Rattle.std.specs.Prelude.{◌≡◌, ◌+◌, min};
 ghost use Rattle.hdl_rows.specs.Table.{most, refusals_after};
 
+use crate::fingerprint::{Kind, fingerprint_of, fingerprint_of_indexes, fingerprint_of_values};
 use crate::gate::Gate;
 use crate::guard::{Effect, Guard};
-use crate::mark::{Kind, mark_of, mark_of_indexes, mark_of_values};
 use crate::sizes::takes_no_more;
 use hdl_limits::Octets;
 use hdl_name::Name;
@@ -49,11 +49,11 @@ fn permit<R: Owing, G: Guard>(
     gate: &mut Gate<G>,
     refusals: &mut u64,
     effect: Effect,
-    mark: u64,
+    fingerprint: u64,
 ) -> Result<(), Refused>
     ensures count { refusals.new ≡ refusals_after result refusals.old }
 {
-    if gate.lets(rows, effect, mark) {
+    if gate.try_pass(rows, effect, fingerprint) {
         return Ok(());
     }
     gate.forbid();
@@ -135,76 +135,76 @@ impl<R: Owing + Drop, G: Guard + Drop> Rows for GuardedRows<R, G> {
     }
 
     fn create(&mut self, name: &Name, values: &[Value]) -> Result<(), Refused> {
-        let mark = mark_of_values(Kind::Create, name, values);
+        let fingerprint = fingerprint_of_values(Kind::Create, name, values);
         permit(
             &self.rows,
             &mut self.gate,
             &mut self.refusals,
             Effect::Takes,
-            mark,
+            fingerprint,
         )?;
         let done = self.rows.create(name, values);
-        self.gate.tell(&self.rows, mark, done.is_ok());
+        self.gate.tell(&self.rows, fingerprint, done.is_ok());
         done
     }
 
     fn add(&mut self, name: &Name, values: &[Value]) -> Result<(), Refused> {
-        let mark = mark_of_values(Kind::Add, name, values);
+        let fingerprint = fingerprint_of_values(Kind::Add, name, values);
         permit(
             &self.rows,
             &mut self.gate,
             &mut self.refusals,
             Effect::Takes,
-            mark,
+            fingerprint,
         )?;
         let done = self.rows.add(name, values);
-        self.gate.tell(&self.rows, mark, done.is_ok());
+        self.gate.tell(&self.rows, fingerprint, done.is_ok());
         done
     }
 
     /// If the table may not take more, it is checked whether the replaced values have as many octets.
     fn modify(&mut self, name: &Name, values: &[Value]) -> Result<(), Refused> {
-        let mark = mark_of_values(Kind::Modify, name, values);
-        if !self.gate.lets(&self.rows, Effect::Takes, mark) {
+        let fingerprint = fingerprint_of_values(Kind::Modify, name, values);
+        if !self.gate.try_pass(&self.rows, Effect::Takes, fingerprint) {
             let held = self.rows.values(name)?;
             permit(
                 &self.rows,
                 &mut self.gate,
                 &mut self.refusals,
                 effect_of(&held, values),
-                mark,
+                fingerprint,
             )?;
         }
         let done = self.rows.modify(name, values);
-        self.gate.tell(&self.rows, mark, done.is_ok());
+        self.gate.tell(&self.rows, fingerprint, done.is_ok());
         done
     }
 
     fn remove(&mut self, name: &Name, indexes: &[u32]) -> Result<(), Refused> {
-        let mark = mark_of_indexes(Kind::Remove, name, indexes);
+        let fingerprint = fingerprint_of_indexes(Kind::Remove, name, indexes);
         permit(
             &self.rows,
             &mut self.gate,
             &mut self.refusals,
             Effect::Frees,
-            mark,
+            fingerprint,
         )?;
         let done = self.rows.remove(name, indexes);
-        self.gate.tell(&self.rows, mark, done.is_ok());
+        self.gate.tell(&self.rows, fingerprint, done.is_ok());
         done
     }
 
     fn delete(&mut self, name: &Name) -> Result<(), Refused> {
-        let mark = mark_of(Kind::Delete, name);
+        let fingerprint = fingerprint_of(Kind::Delete, name);
         permit(
             &self.rows,
             &mut self.gate,
             &mut self.refusals,
             Effect::Frees,
-            mark,
+            fingerprint,
         )?;
         let done = self.rows.delete(name);
-        self.gate.tell(&self.rows, mark, done.is_ok());
+        self.gate.tell(&self.rows, fingerprint, done.is_ok());
         done
     }
 
@@ -228,8 +228,8 @@ impl<R: Owing + Drop, G: Guard + Drop> Owing for GuardedRows<R, G> {
         self.rows.owed()
     }
 
-    fn let_write(&mut self, may_write: bool) {
+    fn set_may_write(&mut self, may_write: bool) {
         self.gate.set_turn(may_write);
-        self.rows.let_write(may_write);
+        self.rows.set_may_write(may_write);
     }
 }

@@ -2,10 +2,10 @@
 //!
 //! ```text
 //! a write -> Guard::permits ── no ─► refused: the table is as it was
-//!                  └─ yes ─► the table behind ─► Guard::note: its Fate
+//!                  └─ yes ─► the table behind ─► Guard::note: its WriteResult
 //! ```
 //!
-//! [`GuardedRows`] wraps a table of any kind, and has a [`Guard`], which is asked before each write whether it may be made, by its [`Effect`], and informed of what became of it ([`Fate`]). So a program refuses what
+//! [`GuardedRows`] wraps a table of any kind, and has a [`Guard`], which is asked before each write whether it may be made, by its [`Effect`], and informed of what became of it ([`WriteResult`]). So a program refuses what
 //! takes more while memory is short, and everything once another program has written the table's file; and it hears of a write that failed, as on a full disk. Every look goes to the table as it came.
 //!
 //! A write that the table owes goes on, whatever the guard thinks: its call is made again until it is claimed. Which of the calls that come it is is known by a mark, on which no clause rests:
@@ -16,7 +16,7 @@
 //! ```rust
 //! // crates/handled/src/serving.rt
 //! let rows = GuardedRows::new(rows, guard);
-//! host_tenants(machine, rt.alloc(), rows, tenants, setting, &mut output)?;
+//! host_tenants(machine, rt.alloc(), rows, tenants, config, &mut output)?;
 //! ```
 //!
 //! # Decisions
@@ -25,11 +25,11 @@
 //! - **A guard is no part of the contract**: what it refuses is refused as by any table, with everything as it was. So no clause above knows of it.
 #![tactic(auto)]
 
+mod fingerprint;
 mod gate;
 mod guard;
 mod guarded;
-mod mark;
 mod sizes;
 
-pub use guard::{Effect, Fate, Guard};
+pub use guard::{Effect, Guard, WriteResult};
 pub use guarded::GuardedRows;

@@ -1,6 +1,6 @@
 //! Bounds of publishers, over any table.
 
-use hdl_boundedrows::{Alarm, Bound};
+use hdl_boundedrows::{Bound, BoundObserver};
 use hdl_telemetry::Notice;
 use std::alloc::{AllocError, Global};
 use std::sync::Arc;
@@ -37,8 +37,8 @@ pub fn notices_of(alloc: Global, bounds: &[Bound]) -> Result<Vec<Notice>, AllocE
     Ok(all)
 }
 
-impl Alarm for Notices {
-    fn ring(&mut self, place: usize, _bound: &Bound) {
+impl BoundObserver for Notices {
+    fn note_exceeded(&mut self, place: usize, _bound: &Bound) {
         if let Some(notice) = self.all.get(place) {
             notice.raise();
         }

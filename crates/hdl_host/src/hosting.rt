@@ -13,10 +13,10 @@ use hdl_listeners::{
     join_workers, open_monitoring, open_publishers, or_device_fault, remove_socket, start_workers,
 };
 use hdl_programs::{Fault, put_all, tenants_of};
-use hdl_queue::WriteQueue;
 use hdl_rows::PlainRows;
-use hdl_serve::{Clock as LoopClock, LaneEnds, WorkerEnd, WorkerSide, lanes_of, serve};
+use hdl_serve::{LaneEnds, LoopClock, WorkerEnd, WorkerSide, lanes_of, serve};
 use hdl_sockets::{CallTimeouts, IdlePoll, MachineClock, OverflowLane, ThreadRole};
+use hdl_write_queue::WriteQueue;
 use std::alloc::Global;
 use std::fs::Files;
 use std::io::Write;

@@ -1,7 +1,7 @@
 //! The clock of the thread that serves, which looks at files and at the process while it has nothing to do.
 
 use hdl_listeners::Monitoring;
-use hdl_serve::Clock as LoopClock;
+use hdl_serve::LoopClock;
 use hdl_sockets::MachineClock;
 use hdl_telemetry::{FileWatch, Health, LogFile, ProcessMetrics};
 use std::alloc::AllocError;

@@ -8,13 +8,13 @@ use crate::hosting::{
     remove_control_socket, resume_within,
 };
 use hdl_boundedrows::BoundedRows;
-use hdl_core::{LetIn, Owing, Rows, Service, Tenants};
+use hdl_cluster::{ClusterStatus, ClusterSync, EtcdChanges, ListFault, WakeServer};
+use hdl_core::{Owing, RemoteChangeResult, Rows, Service, Tenants};
 use hdl_listeners::{HostFault, ServerConfig, or_device_fault};
 use hdl_programs::Fault;
-use hdl_queue::WriteQueue;
-use hdl_serve::{Clock as LoopClock, LaneEnds, News, Served, SharedEnd, serve_shared};
-use hdl_shared::{EtcdNews, Keeper, ListFault, Standing, Waking};
+use hdl_serve::{LaneEnds, LoopClock, RemoteChanges, Served, SharedEnd, serve_shared};
 use hdl_sockets::{LoopWaker, ShutdownFlag};
+use hdl_write_queue::WriteQueue;
 use std::alloc::Global;
 use std::fs::Files;
 use std::io::Write;
@@ -28,17 +28,17 @@ use std::thread::Threads;
 /// What brings other servers' changes, puts this one's, and tells how the server stands beside them.
 #[derive(Drop)]
 pub struct Sharing<R> {
-    pub news: EtcdNews,
-    pub keeper: Keeper<R>,
-    pub standing: Arc<Standing>,
+    pub news: EtcdChanges,
+    pub keeper: ClusterSync<R>,
+    pub standing: Arc<ClusterStatus>,
 }
 
 /// The service of a table that others change too, and what they changed.
 #[derive(Drop)]
 struct SharedService<T: Rows + Drop> {
     service: Service<T>,
-    news: EtcdNews,
-    standing: Arc<Standing>,
+    news: EtcdChanges,
+    standing: Arc<ClusterStatus>,
 }
 
 impl<T: Owing + Drop> LaneServer for SharedService<T> {
@@ -61,8 +61,8 @@ impl<T: Owing + Drop> LaneServer for SharedService<T> {
             turns,
         };
         let shared = serve_shared(alloc, served, clock, queue, &mut news);
-        if shared.end == SharedEnd::Parted {
-            standing.part();
+        if shared.end == SharedEnd::Diverged {
+            standing.note_divergence();
         }
         SharedService {
             service: shared.served.service,
@@ -72,7 +72,7 @@ impl<T: Owing + Drop> LaneServer for SharedService<T> {
     }
 
     fn is_whole(&self) -> bool {
-        !self.standing.has_parted()
+        !self.standing.has_diverged()
     }
 }
 
@@ -83,7 +83,7 @@ struct ServerWaker {
     shutdown: Arc<ShutdownFlag>,
 }
 
-impl Waking for ServerWaker {
+impl WakeServer for ServerWaker {
     fn wake(&self) {
         self.waker.wake();
     }
@@ -94,7 +94,7 @@ impl Waking for ServerWaker {
 }
 
 /// Lets in all that the news have.
-fn let_in_all<T: Owing + Drop, N: News>(
+fn apply_all_remote<T: Owing + Drop, N: RemoteChanges>(
     service: &mut Service<T>,
     news: &mut N,
 ) -> Result<(), Fault> {
@@ -103,10 +103,10 @@ fn let_in_all<T: Owing + Drop, N: News>(
         let Some(next) = news.front() else {
             break;
         };
-        match service.let_in(next.moment, &next.change) {
-            LetIn::Done => news.take(),
-            LetIn::Unfit => return Err(Fault::StoreRefused),
-            LetIn::Refused | LetIn::Owed => return Err(Fault::NoMemory),
+        match service.apply_remote(next.moment, &next.change) {
+            RemoteChangeResult::Done => news.take(),
+            RemoteChangeResult::Unfit => return Err(Fault::StoreRefused),
+            RemoteChangeResult::Refused | RemoteChangeResult::Owed => return Err(Fault::NoMemory),
         }
     }
     Ok(())
@@ -115,15 +115,15 @@ fn let_in_all<T: Owing + Drop, N: News>(
 /// Reads the whole table, part by part, into the service.
 fn load<R: Net<Stream = TcpStream> + Clock + Eprint + Drop, T: Owing + Drop>(
     service: &mut Service<T>,
-    news: &mut EtcdNews,
-    keeper: &mut Keeper<R>,
+    news: &mut EtcdChanges,
+    keeper: &mut ClusterSync<R>,
 ) -> Result<(), HostFault> {
     let mut loading = keeper.load()?;
     for _ in 0..u64::MAX {
         if !keeper.load_part(&mut loading)? {
             break;
         }
-        let_in_all(service, news)?;
+        apply_all_remote(service, news)?;
     }
     Ok(())
 }
@@ -151,20 +151,20 @@ trait BackgroundTask {
 
 /// A keeper, and how it tells the thread that serves.
 #[derive(Drop)]
-struct KeeperTask<R> {
-    keeper: Keeper<R>,
+struct ClusterSyncTask<R> {
+    keeper: ClusterSync<R>,
     waker: ServerWaker,
 }
 
-impl<R: Net<Stream = TcpStream> + Clock + Eprint + Drop> BackgroundTask for KeeperTask<R> {
+impl<R: Net<Stream = TcpStream> + Clock + Eprint + Drop> BackgroundTask for ClusterSyncTask<R> {
     fn run(self) {
-        let KeeperTask { keeper, waker } = self;
+        let ClusterSyncTask { keeper, waker } = self;
         keeper.keep(waker);
     }
 }
 
 /// Starts the thread that keeps the server beside the others.
-fn start_keeper<R: Threads, K: BackgroundTask + Send + Drop + 'static>(
+fn start_cluster_sync<R: Threads, K: BackgroundTask + Send + Drop + 'static>(
     rt: &R,
     task: K,
 ) -> Result<(), Fault> {
@@ -181,7 +181,7 @@ fn open_shared<R: Net<Stream = TcpStream> + Clock + Eprint + Drop, T: Owing + Dr
     tenants: Tenants,
     change_limits: ChangeLimits,
     mut sharing: Sharing<R>,
-) -> Result<(SharedService<BoundedRows<T, Notices>>, Keeper<R>), HostFault> {
+) -> Result<(SharedService<BoundedRows<T, Notices>>, ClusterSync<R>), HostFault> {
     sharing.keeper.open_all(tenants.opening())?;
     let mut service = resume_within(alloc, rows, change_limits, tenants)?;
     load(&mut service, &mut sharing.news, &mut sharing.keeper)?;
@@ -213,7 +213,7 @@ fn keep_and_serve<
     ready: PreparedServer,
     output: &mut W,
 ) -> Result<(), Fault> {
-    start_keeper(rt, task)?;
+    start_cluster_sync(rt, task)?;
     drop(announce_and_serve(rt, alloc, service, ready, output)?);
     Ok(())
 }
@@ -250,7 +250,7 @@ fn share_and_serve<
         shutdown,
     };
     let (service, keeper) = open_shared(alloc, rows, tenants, change_limits, sharing)?;
-    let task = KeeperTask { keeper, waker };
+    let task = ClusterSyncTask { keeper, waker };
     Ok(keep_and_serve(rt, alloc, (service, task), ready, output)?)
 }
 

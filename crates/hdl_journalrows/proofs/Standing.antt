@@ -3,12 +3,12 @@ use Rattle.std.proofs.Common.{◌≡◌, inl, inr, false, List, [], ◌∷◌, �
 use Rattle.hdl_rows.specs.Table.{Table, no_rows}
 use Rattle.hdl_rows.specs.Write.{Write, after_write}
 use Rattle.hdl_journal.specs.Journal.{after_writes}
-use Rattle.hdl_lastingrows.specs.Lasting.{left_by, IsNear}
-use Rattle.hdl_lastingrows.specs.Pending.{owed_by, is_unknown, standing}
-use Rattle.hdl_lastingrows.specs.declared.pending.Pending.{Pending}
-use Rattle.hdl_lastingrows.specs.declared.pending.Pending.TheVariants as pending
-use Rattle.hdl_lastingrows.specs.declared.filing.WriteState.{WriteState}
-use Rattle.hdl_lastingrows.specs.declared.filing.WriteState.TheVariants.{Made, Refused, Unknown, UnderWay}
+use Rattle.hdl_durablerows.specs.Durable.{left_by, IsNear}
+use Rattle.hdl_durablerows.specs.Pending.{owed_by, is_unknown, standing}
+use Rattle.hdl_durablerows.specs.declared.pending.Pending.{Pending}
+use Rattle.hdl_durablerows.specs.declared.pending.Pending.TheVariants as pending
+use Rattle.hdl_durablerows.specs.declared.durable_file.WriteState.{WriteState}
+use Rattle.hdl_durablerows.specs.declared.durable_file.WriteState.TheVariants.{Made, Refused, Unknown, UnderWay}
 use Rattle.hdl_journalrows.specs.Told.{IsOfTold, Tells}
 
 one_more : (t : Table) (ws : List Write) (w : Write) → after_writes t (ws ++ w ∷ []) ≡ after_write (after_writes t ws) w

@@ -3,9 +3,9 @@ use Rattle.std.specs.Prelude.{◌≡◌, List, [], ◌∷◌, ◌++◌}
 use Rattle.hdl_rows.specs.Table.{no_rows}
 use Rattle.hdl_rows.specs.Write.{Write}
 use Rattle.hdl_journal.specs.Journal.{after_writes}
-use Rattle.hdl_lastingrows.specs.Lasting.{Standing, Keeps, Makes, Doubts}
-use Rattle.hdl_lastingrows.specs.declared.filing.WriteState.{WriteState}
-use Rattle.hdl_lastingrows.specs.declared.filing.WriteState.TheVariants.{Made, Refused, Unknown, UnderWay}
+use Rattle.hdl_durablerows.specs.Durable.{Standing, Keeps, Makes, Doubts}
+use Rattle.hdl_durablerows.specs.declared.durable_file.WriteState.{WriteState}
+use Rattle.hdl_durablerows.specs.declared.durable_file.WriteState.TheVariants.{Made, Refused, Unknown, UnderWay}
 
 -- the table is what the told writes make of an empty one, also while a write over it is being made; no write is in doubt
 abbrev pub IsOfTold : List Write → Standing → Type 0

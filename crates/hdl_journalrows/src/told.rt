@@ -5,11 +5,11 @@ ghost use Rattle.hdl_rows.specs.Table.{Table, no_rows};
 ghost use Rattle.hdl_rows.specs.Write as table;
 ghost use Rattle.hdl_rows.specs.Write.{CanWrite};
 ghost use Rattle.hdl_journal.specs.Journal.{after_writes};
-ghost use Rattle.hdl_lastingrows.specs.Lasting.{Keeps, IsNear, left_by};
-ghost use Rattle.hdl_lastingrows.specs.Writes.{write_of};
+ghost use Rattle.hdl_durablerows.specs.Durable.{Keeps, IsNear, left_by};
+ghost use Rattle.hdl_durablerows.specs.Writes.{write_of};
 ghost use Rattle.hdl_journalrows.specs.Told.{IsOfTold, Tells};
 
-use hdl_lastingrows::{Alarm, Filing, LastingRows, Write, WriteState};
+use hdl_durablerows::{DurableFile, DurableRows, ShutObserver, Write, WriteState};
 use hdl_rows::Rows;
 
 /// A list of writes that only grows, of which this server knows a beginning.
@@ -35,13 +35,13 @@ pub struct JournalFile<J: Journal + Drop> {
     pub journal: J,
 }
 
-impl<J: Journal + Drop> Filing for JournalFile<J> {
+impl<J: Journal + Drop> DurableFile for JournalFile<J> {
     ghost use Rattle.hdl_journalrows.specs.Told.{IsOfTold};
     ghost use Rattle.std.specs.Prelude.{true};
 
     ghost stands = { λ s k. IsOfTold (J.told s.journal) k };
 
-    ghost is_beside = { λ _. true };
+    ghost is_threaded = { λ _. true };
 
     fn begin(&mut self, write: &Write<'_>) -> WriteState {
         self.journal.begin(write)
@@ -74,8 +74,8 @@ impl<J: Journal + Drop> Filing for JournalFile<J> {
 
 /// What the journal's writes make of an empty table, in their order, is this table, or this table after the write that is owed; and this table alone, if none is. The table is
 /// never shut.
-pub fn is_of_journal<R: Rows + Drop, J: Journal + Drop, A: Alarm + Drop>(
-    rows: &LastingRows<R, JournalFile<J>, A>,
+pub fn is_of_journal<R: Rows + Drop, J: Journal + Drop, A: ShutObserver + Drop>(
+    rows: &DurableRows<R, JournalFile<J>, A>,
 )
     ensures near { IsNear rows.now.table rows.now.owed (after_writes no_rows (J.told rows.now.file.journal)) }
     ensures exact { rows.now.owed ≡ None → rows.now.table ≡ after_writes no_rows (J.told rows.now.file.journal) }

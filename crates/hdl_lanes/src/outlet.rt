@@ -28,7 +28,7 @@ impl<T: Drop> Outlet<T> {
     }
 
     /// Looks whether there is an item to take. None is taken.
-    pub fn sees(&mut self) -> bool
+    pub fn has_item(&mut self) -> bool
         ensures lane { SameOutlet self.old self.new }
         ensures taken { taken_from self.new ≡ taken_from self.old }
         ensures seen { IsTrue result → 0 < length (seen_in self.new) }

@@ -19,7 +19,7 @@ use Rattle.hdl_tenants.specs.Register.{root}
 use Rattle.hdl_msg.specs.Message.{Content}
 use Rattle.hdl_ops.specs.Admission.{refusal}
 use Rattle.hdl_ops.specs.Requests.{sent_handle, handle_of, is_list}
-use Rattle.hdl_ops.specs.Sights.{Sight, sight}
+use Rattle.hdl_ops.specs.Sights.{TableView, sight}
 use Rattle.hdl_ops.specs.Anyone.{code_for_anyone}
 use Rattle.hdl_ops.specs.Proven.{Proof, target, key_of, MaskOf, value_at, code_before_key, code_for_key, IsCodeBy}
 use Rattle.hdl_auth.specs.declared.algorithm.Algorithm.{Algorithm}
@@ -95,7 +95,7 @@ module _ (hosted : List ℕ → Bool) (C : List Place) (t t' : Table) (agree : A
     mask_of_agrees (Some h) None m mine is = is
     mask_of_agrees (Some h) (Some k) m mine is = mask_agrees h k m (mine h refl) is
 
-    key_agrees : (s : Sight) (r : Content) (p : Proof) (target : Option (List ℕ)) (k : Option Place) (m : Option ℕ) → TargetIsHosted target → MaskOf t target k m
+    key_agrees : (s : TableView) (r : Content) (p : Proof) (target : Option (List ℕ)) (k : Option Place) (m : Option ℕ) → TargetIsHosted target → MaskOf t target k m
         → code_for_key s r p m (value_at t k) ≡ code_for_key s r p m (value_at t' k)
     key_agrees s r p target k None mine is = refl
     key_agrees s r p None k (Some m) mine is = absurd (some_none m is)

@@ -32,8 +32,8 @@ use Rattle.hdl_ops.proofs.SiteDecisions.{site_announced}
 use Rattle.hdl_events.specs.declared.What.{What}
 use Rattle.hdl_events.specs.declared.What.TheVariants.{Open, Bad, Close}
 use Rattle.hdl_laws.specs.Lanes.{LaneState, with_partials}
-use Rattle.hdl_laws.specs.Speech.{Speech}
-use Rattle.hdl_laws.specs.Worlds.{World, hosts, algorithms, owner, lane_of, speech}
+use Rattle.hdl_laws.specs.LaneProfile.{LaneProfile}
+use Rattle.hdl_laws.specs.Worlds.{World, hosts, algorithms, owner, lane_of, lane_profile}
 use Rattle.hdl_laws.specs.Tasks.{Received, Message, message_from, Task, Ignore, Break, Malformed, Unknown, Late, Deny, Ask, Inform, Redeem, told_site, ask_task, is_denied, is_late, without_challenge, due_task, redeem_task, IsReading, IsResponseTask, IsRequestTask, IsContentTask, IsMessageTask, IsWholeTask, IsFrameTask, IsOctetsTask, IsTask}
 use Rattle.hdl_laws.specs.Effects.{Effect, Does, answer_effect, challenge_effect}
 use Rattle.hdl_laws.specs.Steps.{Turn, IsAnswerFor, IsStep}
@@ -91,7 +91,7 @@ either : {A B P : Type 0} (b : Bool) → (A → P) → (B → P) → MatchBool b
 either true f g x = f x
 either false f g x = g x
 
-redeem_coded : (w : Speech) (s : LaneState) (m : Message) (a : Response) (p : Pending) (o : Option Content) → IsReading (SpellsRequest w.wire p.message) o → CodedTask (redeem_task w.takes_changes s m a p o)
+redeem_coded : (w : LaneProfile) (s : LaneState) (m : Message) (a : Response) (p : Pending) (o : Option Content) → IsReading (SpellsRequest w.wire p.message) o → CodedTask (redeem_task w.takes_changes s m a p o)
 redeem_coded w s m a p None h = tt
 redeem_coded w s m a p (Some r) h = denied (is_denied w.takes_changes r.operation)
   where
@@ -103,7 +103,7 @@ redeem_coded w s m a p (Some r) h = denied (is_denied w.takes_changes r.operatio
     denied true = tt
     denied false = by (is_late m p)
 
-response_coded : (w : Speech) (s : LaneState) (m : Message) (r : Content) (a : Response) (o : Option Pending) (k : Task) → IsResponseTask w s m r a o k → CodedTask k
+response_coded : (w : LaneProfile) (s : LaneState) (m : Message) (r : Content) (a : Response) (o : Option Pending) (k : Task) → IsResponseTask w s m r a o k → CodedTask k
 response_coded w s m r a None k is = subst CodedTask (sym is) tt
 response_coded w s m r a (Some p) k is = subst CodedTask (sym is.2) (redeem_coded w s m a p is.0 is.1)
 
@@ -121,7 +121,7 @@ asked_coded s m r site (list handle) is has = has
 asked_coded s m r site (response kind handle index answer) is has = has
 asked_coded s m r site (other octets) is has = has
 
-request_coded : (w : Speech) (s : LaneState) (m : Message) (r : Content) (o : Option Response) (k : Task) → Coded r → IsRequestTask w s m r o k → CodedTask k
+request_coded : (w : LaneProfile) (s : LaneState) (m : Message) (r : Content) (o : Option Response) (k : Task) → Coded r → IsRequestTask w s m r o k → CodedTask k
 request_coded w s m r None k has is = subst CodedTask (sym is) (denied (is_denied w.takes_changes r.operation))
   where
     denied : (b : Bool) → CodedTask (cond {A = Task} b (Deny m r s) (ask_task s m r (told_site w.site r.operation)))
@@ -129,28 +129,28 @@ request_coded w s m r None k has is = subst CodedTask (sym is) (denied (is_denie
     denied false = asked_coded s m r w.site r.operation refl has
 request_coded w s m r (Some a) k has is = response_coded w s m r a (challenge_of s.challenges.challenges m.peer m.envelope.session) k is
 
-content_coded : (w : Speech) (s : LaneState) (m : Message) (o : Option Content) (k : Task) → IsReading (SpellsRequest w.wire m.message) o → IsContentTask w s m o k → CodedTask k
+content_coded : (w : LaneProfile) (s : LaneState) (m : Message) (o : Option Content) (k : Task) → IsReading (SpellsRequest w.wire m.message) o → IsContentTask w s m o k → CodedTask k
 content_coded w s m None k h is = subst CodedTask (sym is) tt
 content_coded w s m (Some r) k h is = request_coded w s m r (response_of r.operation) k h.has_code is
 
-message_coded : (w : Speech) (s : LaneState) (m : Message) (k : Task) → IsMessageTask w s m k → CodedTask k
+message_coded : (w : LaneProfile) (s : LaneState) (m : Message) (k : Task) → IsMessageTask w s m k → CodedTask k
 message_coded w s m k is = content_coded w s m is.0 k is.1 is.2
 
-whole_coded : (w : Speech) (kept gone : LaneState) (x : Received) (o : Option (List ℕ)) (k : Task) → IsWholeTask w kept gone x o k → CodedTask k
+whole_coded : (w : LaneProfile) (kept gone : LaneState) (x : Received) (o : Option (List ℕ)) (k : Task) → IsWholeTask w kept gone x o k → CodedTask k
 whole_coded w kept gone x None k is = subst CodedTask (sym is) tt
 whole_coded w kept gone x (Some bytes) k is = message_coded w gone (message_from x bytes) k is
 
-frame_coded : (w : Speech) (s : LaneState) (x : Received) (k : Task) → IsFrameTask w s x k → CodedTask k
+frame_coded : (w : LaneProfile) (s : LaneState) (x : Received) (k : Task) → IsFrameTask w s x k → CodedTask k
 frame_coded w s x k is =
     either (is_truncated (envelope_at x.bytes))
     (λ piece. whole_coded w _ (with_partials s (free_partial s.partials (key_of x.peer (envelope_at x.bytes)))) x (whole_message (take_piece s.partials (piece_of x.peer x.bytes)).0) k piece)
     (λ whole. message_coded w s _ k whole) is
 
-octets_coded : (w : Speech) (s : LaneState) (x : Received) (k : Task) → IsOctetsTask w s x k → CodedTask k
+octets_coded : (w : LaneProfile) (s : LaneState) (x : Received) (k : Task) → IsOctetsTask w s x k → CodedTask k
 octets_coded w s x k (inl frame) = frame_coded w s x k frame.1
 octets_coded w s x k (inr none) = subst CodedTask (sym none.1) tt
 
-task_coded : (w : Speech) (s : LaneState) (what : What) (k : Task) → IsTask w s what k → CodedTask k
+task_coded : (w : LaneProfile) (s : LaneState) (what : What) (k : Task) → IsTask w s what k → CodedTask k
 task_coded w s Open k is = subst CodedTask (sym is) tt
 task_coded w s Close k is = subst CodedTask (sym is) tt
 task_coded w s (Bad session request) k is = subst CodedTask (sym is) (by s.is_open)
@@ -202,7 +202,7 @@ step_announces w t octets (inl a) e = by (owner w.site t.event.lane) a
     by : (o : Option ℕ) → IsAnswerFor w o t → IsSelfTold octets
     by None is = nothing_sent octets (sym (ap (λ (z : Turn). sent_by z.outcome) is) ∙ e)
     by (Some u) is =
-        does_announce (hosts w.site u) (algorithms w.site u) w.table is.1 is.0 octets (task_coded (speech w.site u) (lane_of w t.event.lane) t.event.what is.1 is.2) is.3 (sym (ap (λ (z : Turn). sent_by z.outcome) is.4) ∙ e)
+        does_announce (hosts w.site u) (algorithms w.site u) w.table is.1 is.0 octets (task_coded (lane_profile w.site u) (lane_of w t.event.lane) t.event.what is.1 is.2) is.3 (sym (ap (λ (z : Turn). sent_by z.outcome) is.4) ∙ e)
 step_announces w t octets (inr b) e = same_octets octets _ (sym (ap (λ (z : Turn). sent_by z.outcome) b.busy) ∙ e) (busy_self (envelope_at b.received.bytes))
 
 pub steps_announce : StepsAnnounce

@@ -18,14 +18,14 @@ use Rattle.hdl_ops.specs.Admission.{refusal, request_algorithm}
 use Rattle.hdl_ops.specs.Decisions.{Level, Anyone, Proven, Decision, DecidesBy, decision, refusal_decision, success, failure, carried_content, change_of}
 use Rattle.hdl_ops.specs.Replies.{fits}
 use Rattle.hdl_ops.specs.Requests.{Response, response_of, stored_operation, with_stored}
-use Rattle.hdl_ops.specs.Sights.{Sight, sight}
+use Rattle.hdl_ops.specs.Sights.{TableView, sight}
 use Rattle.hdl_ops.specs.Tables.{apply_if}
 use Rattle.hdl_ops.proofs.SiteDecisions.{site_changes_nothing}
 use Rattle.hdl_events.specs.declared.What.{What}
 use Rattle.hdl_events.specs.declared.What.TheVariants.{Open, Bad, Close}
 use Rattle.hdl_laws.specs.Lanes.{LaneState, with_partials}
-use Rattle.hdl_laws.specs.Speech.{Speech}
-use Rattle.hdl_laws.specs.Worlds.{World, hosts, algorithms, owner, lane_of, speech}
+use Rattle.hdl_laws.specs.LaneProfile.{LaneProfile}
+use Rattle.hdl_laws.specs.Worlds.{World, hosts, algorithms, owner, lane_of, lane_profile}
 use Rattle.hdl_laws.specs.Tasks.{Received, Message, message_from, Task, Ignore, Break, Malformed, Unknown, Late, Deny, Ask, Inform, Redeem, told_site, ask_task, is_denied, is_late, without_challenge, due_task, redeem_task, IsResponseTask, IsRequestTask, IsContentTask, IsMessageTask, IsWholeTask, IsFrameTask, IsOctetsTask, IsTask}
 use Rattle.hdl_laws.specs.Effects.{Effect, Does, answer_effect, challenge_effect}
 use Rattle.hdl_laws.specs.Steps.{Turn, IsAnswerFor, IsStep, moment_of}
@@ -53,7 +53,7 @@ no_change : (takes : Bool) (o : Operation) → takes ≡ false → is_denied tak
 no_change true o none e = absurd (true≢false none)
 no_change false o none e = none_if (change_of o) e
 
-module _ (w : Speech) (none : w.takes_changes ≡ false) where
+module _ (w : LaneProfile) (none : w.takes_changes ≡ false) where
   redeem_keeps : (s : LaneState) (m : Message) (a : Response) (p : Pending) (o : Option Content) → KeepsTask (redeem_task w.takes_changes s m a p o)
   redeem_keeps s m a p None = tt
   redeem_keeps s m a p (Some r) = denied (is_denied w.takes_changes r.operation) refl
@@ -128,7 +128,7 @@ stored_keeps wire (site_info octets) e = refl
 stored_keeps wire (other octets) e = refl
 
 module _ (hosted : List ℕ → Bool) (t : Table) where
-  decision_keeps : (a : Algorithm) (s : Sight) (r : Content) (level : Level) (code : ℕ) → change_of r.operation ≡ None → (decision a s r level code).change ≡ None
+  decision_keeps : (a : Algorithm) (s : TableView) (r : Content) (level : Level) (code : ℕ) → change_of r.operation ≡ None → (decision a s r level code).change ≡ None
   unfolding decision
   decision_keeps a s r level code none = pick (code == 1) (fits a r (carried_content s r level))
     where
@@ -176,7 +176,7 @@ step_stays w t none (inl a) = by (owner w.site t.event.lane) a
     by : (o : Option ℕ) → IsAnswerFor w o t → StaysAt w t
     by None is = record { site = ap (λ (z : Turn). z.after.site) is; table = ap (λ (z : Turn). z.after.table) is }
     by (Some u) is =
-        let keeps = task_keeps (speech w.site u) none (lane_of w t.event.lane) t.event.what is.1 is.2 in
+        let keeps = task_keeps (lane_profile w.site u) none (lane_of w t.event.lane) t.event.what is.1 is.2 in
         let change = does_keep (hosts w.site u) w.table (algorithms w.site u) is.1 is.0 keeps is.3 in
         record {
           site = ap (λ (z : Turn). z.after.site) is.4;

@@ -3,11 +3,11 @@ use Rattle.std.proofs.Common.{◌≡◌, ℕ, List, [], ◌∷◌, Option, Some,
 use Rattle.hdl_value.specs.Place.{Place}
 use Rattle.hdl_events.specs.declared.Event.{Event}
 use Rattle.hdl_events.specs.declared.Outcome.TheVariants.{Silent}
-use Rattle.hdl_laws.specs.Worlds.{World, hosts, algorithms, owner, lane_of, speech}
+use Rattle.hdl_laws.specs.Worlds.{World, hosts, algorithms, owner, lane_of, lane_profile}
 use Rattle.hdl_laws.specs.Tasks.{Task, IsTask}
 use Rattle.hdl_laws.specs.Effects.{Effect, Does}
 use Rattle.hdl_laws.specs.Steps.{Turn, turn, IsAnswerFor, IsAnswer}
-use Rattle.hdl_laws.specs.Runs.{IsRun, IsRunWithoutBusy, RunWithoutBusy, last, events, outcomes}
+use Rattle.hdl_laws.specs.Runs.{IsRun, IsRunWithoutBusy, HasRunWithoutBusy, last, events, outcomes}
 use Rattle.hdl_laws.specs.Isolation.{IsCover, IsQuiet, restrict, turns_of}
 use Rattle.hdl_laws.specs.Laws.{ClosedAlong, KeepsCovers, RestrictsRuns, RunWithoutBusyIsOne, TwoRunsAgree}
 use Rattle.hdl_laws.proofs.Steps.{task_one, does_one}
@@ -43,7 +43,7 @@ restricts_runs w ts rootless run u C cover quiet =
 -- an answer, by an event that stands beside the turn
 abbrev pub AnswersFor : World → Event → Option ℕ → Turn → Type 0
 AnswersFor w e None t = t ≡ record { event = t.event; outcome = Silent; change = None; after = w }
-AnswersFor w e (Some u) t = (eff : Effect) × (k : Task) × IsTask (speech w.site u) (lane_of w e.lane) e.what k × Does (hosts w.site u) (algorithms w.site u) w.table k eff × (t ≡ turn w t.event eff)
+AnswersFor w e (Some u) t = (eff : Effect) × (k : Task) × IsTask (lane_profile w.site u) (lane_of w e.lane) e.what k × Does (hosts w.site u) (algorithms w.site u) w.table k eff × (t ≡ turn w t.event eff)
 
 pub at_event : (w : World) (e : Event) (t : Turn) → t.event ≡ e → IsAnswer w t → AnswersFor w e (owner w.site e.lane) t
 at_event w e t is a = subst (λ x. AnswersFor w x (owner w.site x.lane) t) is (as_for (owner w.site t.event.lane) a)
@@ -58,7 +58,7 @@ answer_one w t t' is a b = by_owner (owner w.site t'.event.lane) (at_event w t'.
     by_owner : (o : Option ℕ) → AnswersFor w t'.event o t → AnswersFor w t'.event o t' → t ≡ t'
     by_owner None x y = x ∙ ap (λ (e : Event). record { event = e; outcome = Silent; change = None; after = w }) is ∙ sym y
     by_owner (Some u) x y =
-        let same : x.1 ≡ y.1 = task_one (speech w.site u) (lane_of w t'.event.lane) t'.event.what x.1 y.1 x.2 y.2 in
+        let same : x.1 ≡ y.1 = task_one (lane_profile w.site u) (lane_of w t'.event.lane) t'.event.what x.1 y.1 x.2 y.2 in
         let does : Does (hosts w.site u) (algorithms w.site u) w.table y.1 x.0 = subst (λ k. Does (hosts w.site u) (algorithms w.site u) w.table k x.0) same x.3 in
         x.4 ∙ (λ i. turn w (is i) (does_one (hosts w.site u) (algorithms w.site u) w.table y.1 x.0 y.0 does y.3 i)) ∙ sym y.4
 
@@ -91,6 +91,6 @@ two_runs_agree w w' ts ts' u C rootless rootless' run run' cover cover' quiet qu
     let b = restricts_runs w' ts' rootless' run' u C cover' quiet' in
     let os = outcomes (turns_of w'.site u ts') in
     let end = restrict (last w' ts') u C in
-    let b' : RunWithoutBusy (restrict w u C) (events (turns_of w.site u ts)) os end =
-    subst (λ v. RunWithoutBusy v (events (turns_of w.site u ts)) os end) (sym same) (subst (λ x. RunWithoutBusy (restrict w' u C) x os end) (sym es) b) in
+    let b' : HasRunWithoutBusy (restrict w u C) (events (turns_of w.site u ts)) os end =
+    subst (λ v. HasRunWithoutBusy v (events (turns_of w.site u ts)) os end) (sym same) (subst (λ x. HasRunWithoutBusy (restrict w' u C) x os end) (sym es) b) in
     run_without_busy_is_one (restrict w u C) (restrict (last w ts) u C) end (events (turns_of w.site u ts)) (outcomes (turns_of w.site u ts)) os a b'

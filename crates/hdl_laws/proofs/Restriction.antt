@@ -20,7 +20,7 @@ use Rattle.hdl_tenants.specs.Register.{Hosting, SiteInfo, root, hosts_among, alg
 use Rattle.hdl_ops.specs.Decisions.{told_by}
 use Rattle.hdl_ops.specs.Tables.{apply_if}
 use Rattle.hdl_laws.specs.Lanes.{LaneState, fresh}
-use Rattle.hdl_laws.specs.Worlds.{World, Site, owner, hosts, algorithms, lane_of, layout, speech}
+use Rattle.hdl_laws.specs.Worlds.{World, Site, owner, hosts, algorithms, lane_of, layout, lane_profile}
 use Rattle.hdl_laws.specs.Tasks.{IsTask}
 use Rattle.hdl_laws.specs.Effects.{Does}
 use Rattle.hdl_laws.specs.Steps.{Turn, moment_of, after_effect, IsAnswerFor, IsAnswer, IsBusy, IsStep}
@@ -93,7 +93,7 @@ site_filtered (line ∷ sites) u = pick (line.publisher == u) refl (site_filtere
     pick true e rest = λ i. octets_of (cond (e i) (Some line) (found (filter (λ x. x.publisher == u) sites)))
     pick false e rest = rest
 
-speech_restricted : (s : Site) (u : ℕ) → speech (restrict_site s u) u ≡ speech s u
+speech_restricted : (s : Site) (u : ℕ) → lane_profile (restrict_site s u) u ≡ lane_profile s u
 speech_restricted s u = λ i. record { wire = layout_restricted s u i; site = told_by (layout_restricted s u i) (site_filtered s.sites u i); takes_changes = s.takes_changes }
 
 -- ---- lanes
@@ -160,9 +160,9 @@ module _ (u : ℕ) (C : List Place) where
   answer_for w t rootless closed mine a =
       let eff = a.0 in
       let hosted = hosts w.site u in
-      let task : IsTask (speech (restrict_site w.site u) u) (lane_of (restrict w u C) t.event.lane) t.event.what a.1 =
+      let task : IsTask (lane_profile (restrict_site w.site u) u) (lane_of (restrict w u C) t.event.lane) t.event.what a.1 =
       subst (λ l. IsTask l (lane_of (restrict w u C) t.event.lane) t.event.what a.1) (sym (speech_restricted w.site u))
-      (subst (λ s. IsTask (speech w.site u) s t.event.what a.1) (sym (lane_restricted w u C t.event.lane mine)) a.2) in
+      (subst (λ s. IsTask (lane_profile w.site u) s t.event.what a.1) (sym (lane_restricted w u C t.event.lane mine)) a.2) in
       let does : Does (hosts (restrict_site w.site u) u) (algorithms (restrict_site w.site u) u) (restrict_table hosted C w.table) a.1 eff =
       subst (λ g. Does (hosts (restrict_site w.site u) u) g (restrict_table hosted C w.table) a.1 eff) (sym (algorithms_restricted w.site u))
       (subst (λ f. Does f (algorithms w.site u) (restrict_table hosted C w.table) a.1 eff) (sym (hosts_restricted w.site u))

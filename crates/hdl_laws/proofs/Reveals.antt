@@ -18,7 +18,7 @@ use Rattle.hdl_ops.proofs.Codes.{is_answer_code, code_fits, decides_code, tells_
 use Rattle.hdl_ops.proofs.SiteDecisions.{site_code, site_told}
 use Rattle.hdl_events.specs.declared.Outcome.TheVariants.{Reply, Busy, Silent, CloseAfter}
 use Rattle.hdl_laws.specs.Lanes.{LaneState}
-use Rattle.hdl_laws.specs.Worlds.{World, hosts, algorithms, algorithms_for, speech_for, owner, lane_of}
+use Rattle.hdl_laws.specs.Worlds.{World, hosts, algorithms, algorithms_for, lane_profile_for, owner, lane_of}
 use Rattle.hdl_laws.specs.Tasks.{Message, Task, Ignore, Break, Malformed, Unknown, Late, Deny, Ask, Inform, Redeem, IsTask}
 use Rattle.hdl_laws.specs.Effects.{Effect, Does, answer_octets, challenge_octets, answer_effect, challenge_effect}
 use Rattle.hdl_laws.specs.Steps.{Turn, IsAnswerFor, IsStep}
@@ -82,7 +82,7 @@ does_tell hosted algorithms t (Redeem m r p s) eff octets is e = decided_reply h
 step_tells : (w : World) (t : Turn) → IsStep w t → Reveals w t.event t.outcome
 step_tells w t (inl a) octets e = by_owner (owner w.site t.event.lane) a
   where
-    by_owner : (o : Option ℕ) → IsAnswerFor w o t → (k : Task) × IsTask (speech_for w.site o) (lane_of w t.event.lane) t.event.what k × IsReplyBy (algorithms_for w.site o) w.table k (response_code_at octets) octets
+    by_owner : (o : Option ℕ) → IsAnswerFor w o t → (k : Task) × IsTask (lane_profile_for w.site o) (lane_of w t.event.lane) t.event.what k × IsReplyBy (algorithms_for w.site o) w.table k (response_code_at octets) octets
     by_owner None is = absurd (silent_is_none octets (sym (ap (λ (z : Turn). z.outcome) is) ∙ e))
     by_owner (Some u) is =
         (is.1, is.2, does_tell (hosts w.site u) (algorithms w.site u) w.table is.1 is.0 octets is.3 (sym (ap (λ (z : Turn). z.outcome) is.4) ∙ e))

@@ -21,7 +21,7 @@ use Rattle.hdl_ops.specs.declared.change.Change.TheVariants.{Create, Delete, Add
 use Rattle.hdl_ops.specs.Admission.{refusal, request_algorithm}
 use Rattle.hdl_ops.specs.Requests.{Response, sent_handle, response_of, stored_operation}
 use Rattle.hdl_ops.proofs.Stored.{stored_handle}
-use Rattle.hdl_ops.specs.Sights.{Sight, sight}
+use Rattle.hdl_ops.specs.Sights.{TableView, sight}
 use Rattle.hdl_ops.specs.Replies.{fits}
 use Rattle.hdl_ops.specs.Decisions.{Level, Anyone, Proven, Decision, DecidesBy, decision, refusal_decision, success, failure, carried_content, change_of}
 use Rattle.hdl_ops.proofs.Passed.{Passes, passes_unless_refused, canonical_is_hosted}
@@ -32,7 +32,7 @@ use Rattle.hdl_pool.specs.Partial as partial
 use Rattle.hdl_pool.specs.Partial.{piece_of}
 use Rattle.hdl_pool.specs.Taking.{take_piece, whole_message, free_partial}
 use Rattle.hdl_laws.specs.Lanes.{LaneState, with_partials}
-use Rattle.hdl_laws.specs.Speech.{Speech}
+use Rattle.hdl_laws.specs.LaneProfile.{LaneProfile}
 use Rattle.hdl_laws.specs.Tasks.{Received, Message, message_from, Task, Ignore, Break, Malformed, Unknown, Late, Deny, Ask, Inform, Redeem, IsReading, IsTask, IsResponseTask, IsRequestTask, IsContentTask, IsMessageTask, IsWholeTask, IsPieceTask, IsFrameTask, IsOctetsTask, redeem_task}
 use Rattle.hdl_laws.specs.Effects.{Effect, Does, ask_effect, answer_effect, challenge_effect}
 use Rattle.hdl_laws.specs.Runs.{is_busy}
@@ -51,19 +51,19 @@ same_reading P one (Some x) (Some y) a b = ap Some (one x y a b)
 one_reading : (w : Wire) (octets : List ℕ) (o o' : Option Content) → IsReading (SpellsRequest w octets) o → IsReading (SpellsRequest w octets) o' → o ≡ o'
 one_reading w octets o o' a b = same_reading (SpellsRequest w octets) (λ c d p q. one_request_lem w octets c d p q) o o' a b
 
-response_task_one : (w : Speech) (s : LaneState) (m : Message) (r : Content) (a : Response) (p : Option Pending) (k k' : Task) → IsResponseTask w s m r a p k → IsResponseTask w s m r a p k' → k ≡ k'
+response_task_one : (w : LaneProfile) (s : LaneState) (m : Message) (r : Content) (a : Response) (p : Option Pending) (k k' : Task) → IsResponseTask w s m r a p k → IsResponseTask w s m r a p k' → k ≡ k'
 response_task_one w s m r a None k k' x y = x ∙ sym y
 response_task_one w s m r a (Some p) k k' x y = x.2 ∙ ap (redeem_task w.takes_changes s m a p) (one_reading w.wire p.message x.0 y.0 x.1 y.1) ∙ sym y.2
 
-request_task_one : (w : Speech) (s : LaneState) (m : Message) (r : Content) (a : Option Response) (k k' : Task) → IsRequestTask w s m r a k → IsRequestTask w s m r a k' → k ≡ k'
+request_task_one : (w : LaneProfile) (s : LaneState) (m : Message) (r : Content) (a : Option Response) (k k' : Task) → IsRequestTask w s m r a k → IsRequestTask w s m r a k' → k ≡ k'
 request_task_one w s m r None k k' x y = x ∙ sym y
 request_task_one w s m r (Some a) k k' x y = response_task_one w s m r a _ k k' x y
 
-content_task_one : (w : Speech) (s : LaneState) (m : Message) (o : Option Content) (k k' : Task) → IsContentTask w s m o k → IsContentTask w s m o k' → k ≡ k'
+content_task_one : (w : LaneProfile) (s : LaneState) (m : Message) (o : Option Content) (k k' : Task) → IsContentTask w s m o k → IsContentTask w s m o k' → k ≡ k'
 content_task_one w s m None k k' x y = x ∙ sym y
 content_task_one w s m (Some r) k k' x y = request_task_one w s m r (response_of r.operation) k k' x y
 
-message_task_one : (w : Speech) (s : LaneState) (m : Message) (k k' : Task) → IsMessageTask w s m k → IsMessageTask w s m k' → k ≡ k'
+message_task_one : (w : LaneProfile) (s : LaneState) (m : Message) (k k' : Task) → IsMessageTask w s m k → IsMessageTask w s m k' → k ≡ k'
 message_task_one w s m k k' a b = content_task_one w s m b.0 k k' (subst (λ o. IsContentTask w s m o k) (one_reading w.wire m.message a.0 b.0 a.1 b.1) a.2) b.2
 
 either_one : (c : Bool) (P Q : Task → Type 0) → ((k k' : Task) → P k → P k' → k ≡ k') → ((k k' : Task) → Q k → Q k' → k ≡ k') → (k k' : Task) → MatchBool c (P k) (Q k) → MatchBool c (P k') (Q k') → k ≡ k'
@@ -73,24 +73,24 @@ either_one false P Q p q k k' a b = q k k' a b
 same_task : (x k k' : Task) → k ≡ x → k' ≡ x → k ≡ k'
 same_task x k k' a b = a ∙ sym b
 
-whole_task_one : (w : Speech) (kept gone : LaneState) (x : Received) (o : Option (List ℕ)) (k k' : Task) → IsWholeTask w kept gone x o k → IsWholeTask w kept gone x o k' → k ≡ k'
+whole_task_one : (w : LaneProfile) (kept gone : LaneState) (x : Received) (o : Option (List ℕ)) (k k' : Task) → IsWholeTask w kept gone x o k → IsWholeTask w kept gone x o k' → k ≡ k'
 whole_task_one w kept gone x None k k' a b = same_task (Ignore kept) k k' a b
 whole_task_one w kept gone x (Some message) k k' a b = message_task_one w gone (message_from x message) k k' a b
 
-frame_task_one : (w : Speech) (s : LaneState) (x : Received) (k k' : Task) → IsFrameTask w s x k → IsFrameTask w s x k' → k ≡ k'
+frame_task_one : (w : LaneProfile) (s : LaneState) (x : Received) (k k' : Task) → IsFrameTask w s x k → IsFrameTask w s x k' → k ≡ k'
 frame_task_one w s x k k' a b =
     let after = take_piece s.partials (piece_of x.peer x.bytes) in
     let gone = with_partials s (free_partial s.partials (partial.key_of x.peer (envelope_at x.bytes))) in
     either_one (is_truncated (envelope_at x.bytes)) (λ j. IsPieceTask w s x after j) (λ j. IsMessageTask w s (message_from x (drop 20 x.bytes)) j)
     (whole_task_one w (with_partials s after.1) gone x (whole_message after.0)) (message_task_one w s (message_from x (drop 20 x.bytes))) k k' a b
 
-octets_task_one : (w : Speech) (s : LaneState) (x : Received) (k k' : Task) → IsOctetsTask w s x k → IsOctetsTask w s x k' → k ≡ k'
+octets_task_one : (w : LaneProfile) (s : LaneState) (x : Received) (k k' : Task) → IsOctetsTask w s x k → IsOctetsTask w s x k' → k ≡ k'
 octets_task_one w s x k k' (inl a) (inl b) = frame_task_one w s x k k' a.1 b.1
 octets_task_one w s x k k' (inl a) (inr b) = absurd (b.0 a.0)
 octets_task_one w s x k k' (inr a) (inl b) = absurd (a.0 b.0)
 octets_task_one w s x k k' (inr a) (inr b) = a.1 ∙ sym b.1
 
-pub task_one : (w : Speech) (s : LaneState) (what : What) (k k' : Task) → IsTask w s what k → IsTask w s what k' → k ≡ k'
+pub task_one : (w : LaneProfile) (s : LaneState) (what : What) (k k' : Task) → IsTask w s what k → IsTask w s what k' → k ≡ k'
 task_one w s What.Open k k' a b = a ∙ sym b
 task_one w s What.Close k k' a b = a ∙ sym b
 task_one w s (What.Bad session request) k k' a b = a ∙ sym b
@@ -155,7 +155,7 @@ asked_change hosted (site_info octets) mine = changes_none hosted
 asked_change hosted (other octets) mine = changes_none hosted
 
 module _ (hosted : List ℕ → Bool) (t : Table) where
-  decision_change : (a : Algorithm) (s : Sight) (r : Content) (level : Level) (code : ℕ) → Passes hosted r → ChangesHosted hosted (decision a s r level code).change
+  decision_change : (a : Algorithm) (s : TableView) (r : Content) (level : Level) (code : ℕ) → Passes hosted r → ChangesHosted hosted (decision a s r level code).change
   unfolding decision
   decision_change a s r level code passes = pick (code == 1) (fits a r (carried_content s r level))
     where

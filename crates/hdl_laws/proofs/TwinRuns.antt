@@ -6,7 +6,7 @@ use Rattle.hdl_msg.specs.Reply.{short_reply}
 use Rattle.hdl_ops.proofs.Codes.{not_busy}
 use Rattle.hdl_events.specs.declared.Event.{Event}
 use Rattle.hdl_events.specs.declared.Outcome.TheVariants.{Busy}
-use Rattle.hdl_laws.specs.Worlds.{World, with_table, hosts, algorithms, owner, lane_of, speech_for, speech}
+use Rattle.hdl_laws.specs.Worlds.{World, with_table, hosts, algorithms, owner, lane_of, lane_profile_for, lane_profile}
 use Rattle.hdl_laws.specs.Tasks.{Received, IsTask}
 use Rattle.hdl_laws.specs.Effects.{Effect, Does}
 use Rattle.hdl_laws.specs.Steps.{what_of, Turn, IsBusy, IsStep, moment_of, after_effect}
@@ -49,9 +49,9 @@ module _ (H : List (List ℕ)) where
   answers_twin w u2 twins t t' is codes allows (Some u) mine a b =
       let out : t.outcome ≡ a.0.outcome = ap (λ (z : Turn). z.outcome) a.4 in
       let out' : t'.outcome ≡ b.0.outcome = ap (λ (z : Turn). z.outcome) b.4 in
-      let task : a.1 ≡ b.1 = task_one (speech w.site u) (lane_of w t.event.lane) t.event.what a.1 b.1 a.2 b.2 in
+      let task : a.1 ≡ b.1 = task_one (lane_profile w.site u) (lane_of w t.event.lane) t.event.what a.1 b.1 a.2 b.2 in
       let does : Does (hosts w.site u) (algorithms w.site u) u2 a.1 b.0 = subst (λ k. Does (hosts w.site u) (algorithms w.site u) u2 k b.0) (sym task) b.3 in
-      let same : a.0 ≡ b.0 = does_twin H w.table u2 twins (hosts w.site u) (algorithms w.site u) a.1 a.0 b.0 a.3 does (sym (ap code_of out) ∙ codes ∙ ap code_of out') (λ r k res one. allows a.1 r (subst (λ l. IsTask l (lane_of w t.event.lane) t.event.what a.1) (sym (ap (speech_for w.site) mine)) a.2) k res (ap code_of out ∙ one)) in
+      let same : a.0 ≡ b.0 = does_twin H w.table u2 twins (hosts w.site u) (algorithms w.site u) a.1 a.0 b.0 a.3 does (sym (ap code_of out) ∙ codes ∙ ap code_of out') (λ r k res one. allows a.1 r (subst (λ l. IsTask l (lane_of w t.event.lane) t.event.what a.1) (sym (ap (lane_profile_for w.site) mine)) a.2) k res (ap code_of out ∙ one)) in
       alike_by t t' (after_effect w t.event a.0) (after_effect (with_table w u2) t.event a.0)
       (out ∙ ap (λ (z : Effect). z.outcome) same ∙ sym out')
       (ap (λ (z : Turn). z.after) a.4)

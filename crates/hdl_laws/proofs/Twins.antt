@@ -20,7 +20,7 @@ use Rattle.hdl_ops.specs.declared.change.Change.{Change}
 use Rattle.hdl_ops.specs.Admission.{refusal, request_algorithm}
 use Rattle.hdl_ops.specs.Requests as requests
 use Rattle.hdl_ops.specs.Requests.{sent_handle, resolves, is_list, stored_operation}
-use Rattle.hdl_ops.specs.Sights.{Sight, sight, asks}
+use Rattle.hdl_ops.specs.Sights.{TableView, sight, asks}
 use Rattle.hdl_ops.specs.Proven.{Proof}
 use Rattle.hdl_ops.specs.Replies.{fits}
 use Rattle.hdl_ops.specs.Decisions.{Level, Anyone, Proven, Decision, DecidesBy, decision, success, failure, show, carried_content, carried_by, may_read, change_of}
@@ -28,7 +28,7 @@ use Rattle.hdl_ops.specs.Tables.{write_of, stamped_write, apply_if}
 use Rattle.hdl_ops.proofs.Codes.{decides_code}
 use Rattle.hdl_laws.specs.Tasks.{Task, Ignore, Break, Malformed, Unknown, Late, Deny, Ask, Inform, Redeem}
 use Rattle.hdl_laws.specs.Effects.{Effect, Does, ask_effect, answer_effect}
-use Rattle.hdl_laws.specs.Isolation.{is_held, may_be_read, without_content, readable, AreTwins, code_of, proven_request}
+use Rattle.hdl_laws.specs.Isolation.{is_authorised, may_be_read, without_content, readable, AreTwins, code_of, proven_request}
 use Rattle.hdl_laws.proofs.Maps.{get-retained, alike_values}
 use Rattle.hdl_laws.proofs.Codes.{answer_code, ask_code}
 
@@ -52,7 +52,7 @@ reads_kept held p e v f = ap (λ b. is_public v || b) (sym (with_true (is_kept v
     with_true true = refl
     with_true false = refl
 
-module _ (H : List (List ℕ)) (h : List ℕ) (level : Level) (o : Operation) (reads : Reads (is_held H h) level) where
+module _ (H : List (List ℕ)) (h : List ℕ) (level : Level) (o : Operation) (reads : Reads (is_authorised H h) level) where
   abbrev wanted : Value → Bool
   wanted v = asks o v && may_read level v
 
@@ -77,10 +77,10 @@ gated_map f true x y e = e refl
 gated_map f false x y e = refl
 
 -- success, or a failure of another code that says nothing
-abbrev IsFormOf : Sight → Content → Level → Decision → Type 0
+abbrev IsFormOf : TableView → Content → Level → Decision → Type 0
 IsFormOf s r level d = (d ≡ success s r level) ⊎ ((n : ℕ) × ((n == 1) ≡ false) × (d ≡ failure n Empty))
 
-decision_form : (a : Algorithm) (s : Sight) (r : Content) (level : Level) (code : ℕ) → IsFormOf s r level (decision a s r level code)
+decision_form : (a : Algorithm) (s : TableView) (r : Content) (level : Level) (code : ℕ) → IsFormOf s r level (decision a s r level code)
 unfolding decision
 decision_form a s r level code = pick (code == 1) refl (fits a r (carried_content s r level))
   where
@@ -89,7 +89,7 @@ decision_form a s r level code = pick (code == 1) refl (fits a r (carried_conten
     pick true e false = inr (2, refl, refl)
     pick false e c = inr (code, e, refl)
 
-forms_twin : (s s' : Sight) (r : Content) (level : Level) (d d' : Decision) → IsFormOf s r level d → IsFormOf s' r level d' → d.code ≡ d'.code → (d.code ≡ 1 → success s r level ≡ success s' r level) → d ≡ d'
+forms_twin : (s s' : TableView) (r : Content) (level : Level) (d d' : Decision) → IsFormOf s r level d → IsFormOf s' r level d' → d.code ≡ d'.code → (d.code ≡ 1 → success s r level ≡ success s' r level) → d ≡ d'
 forms_twin s s' r level d d' (inl a) (inl b) e f = a ∙ f (ap (λ (z : Decision). z.code) a) ∙ sym b
 forms_twin s s' r level d d' (inl a) (inr b) e f =
     absurd (true≢false (ap (λ n. n == 1) (sym (ap (λ (z : Decision). z.code) a) ∙ e ∙ ap (λ (z : Decision). z.code) b.2) ∙ b.1))
@@ -105,7 +105,7 @@ module _ (H : List (List ℕ)) (t t' : Table) (twins : AreTwins H t t') where
       ∙ gated_map (readable H h) (same_handle p.handle h) (at t p) (at t' p) (λ e. subst (λ g. option_map (readable H g) (at t p) ≡ option_map (readable H g) (at t' p)) (handles_equal _ _ e) (twins.values p))
       ∙ sym (ap (option_map (readable H h)) (get-retained place_antisymmetric t'.values (λ q. same_handle q.handle h) p)))
 
-  show_twin : (r : Content) (level : Level) → Reads (is_held H (requests.handle_of r)) level → show (sight t r) r level ≡ show (sight t' r) r level
+  show_twin : (r : Content) (level : Level) → Reads (is_authorised H (requests.handle_of r)) level → show (sight t r) r level ≡ show (sight t' r) r level
   unfolding sight
   show_twin r level reads =
       let h = requests.handle_of r in
@@ -120,7 +120,7 @@ module _ (H : List (List ℕ)) (t t' : Table) (twins : AreTwins H t t') where
   unfolding sight
   sight_names_twin r = ap (λ names. if is_list r.operation then names else []) (names_twin (prefix (sent_handle r.operation)))
 
-  carried_twin : (o : Operation) (r : Content) (level : Level) → (IsTrue (resolves o) → Reads (is_held H (requests.handle_of r)) level) → carried_by o (sight t r) r level ≡ carried_by o (sight t' r) r level
+  carried_twin : (o : Operation) (r : Content) (level : Level) → (IsTrue (resolves o) → Reads (is_authorised H (requests.handle_of r)) level) → carried_by o (sight t r) r level ≡ carried_by o (sight t' r) r level
   carried_twin (resolution handle indexes types) r level f = ap (Values r.wire handle) (show_twin r level (f refl))
   carried_twin (list handle) r level f = ap Handles (sight_names_twin r)
   carried_twin (create handle values) r level f = refl
@@ -132,11 +132,11 @@ module _ (H : List (List ℕ)) (t t' : Table) (twins : AreTwins H t t') where
   carried_twin (site_info octets) r level f = refl
   carried_twin (other octets) r level f = refl
 
-  success_twin : (r : Content) (level : Level) → (IsTrue (resolves r.operation) → Reads (is_held H (requests.handle_of r)) level) → success (sight t r) r level ≡ success (sight t' r) r level
+  success_twin : (r : Content) (level : Level) → (IsTrue (resolves r.operation) → Reads (is_authorised H (requests.handle_of r)) level) → success (sight t r) r level ≡ success (sight t' r) r level
   success_twin r level f = λ i. record { code = 1; content = carried_twin r.operation r level f i; change = change_of (stored_operation r) }
 
   -- decisions of one code are one
-  decides_twin : (g : Algorithm) (r : Content) (level : Level) (d d' : Decision) (c : Option ℕ) → DecidesBy g t r level c d → DecidesBy g t' r level c d' → d.code ≡ d'.code → (d.code ≡ 1 → IsTrue (resolves r.operation) → Reads (is_held H (requests.handle_of r)) level) → d ≡ d'
+  decides_twin : (g : Algorithm) (r : Content) (level : Level) (d d' : Decision) (c : Option ℕ) → DecidesBy g t r level c d → DecidesBy g t' r level c d' → d.code ≡ d'.code → (d.code ≡ 1 → IsTrue (resolves r.operation) → Reads (is_authorised H (requests.handle_of r)) level) → d ≡ d'
   decides_twin g r level d d' (Some c) a b e f = a ∙ sym b
   decides_twin g r Anyone d d' None a b e f =
       forms_twin (sight t r) (sight t' r) r Anyone d d' (subst (IsFormOf (sight t r) r Anyone) (sym a) (decision_form g (sight t r) r Anyone _)) (subst (IsFormOf (sight t' r) r Anyone) (sym b) (decision_form g (sight t' r) r Anyone _)) e (λ is. success_twin r Anyone (f is))
@@ -148,7 +148,7 @@ module _ (H : List (List ℕ)) (t t' : Table) (twins : AreTwins H t t') where
 
   -- effects of one code are one
   pub does_twin : (hosted : List ℕ → Bool) (algorithms : List ℕ → Algorithm) (k : Task) (x y : Effect) → Does hosted algorithms t k x → Does hosted algorithms t' k y → code_of x.outcome ≡ code_of y.outcome
-      → ((r : Content) → proven_request k ≡ Some r → IsTrue (resolves r.operation) → code_of x.outcome ≡ 1 → IsTrue (is_held H (requests.handle_of r))) → x ≡ y
+      → ((r : Content) → proven_request k ≡ Some r → IsTrue (resolves r.operation) → code_of x.outcome ≡ 1 → IsTrue (is_authorised H (requests.handle_of r))) → x ≡ y
   does_twin hosted algorithms (Ignore s) x y a b e f = a ∙ sym b
   does_twin hosted algorithms (Break session request s) x y a b e f = a ∙ sym b
   does_twin hosted algorithms (Malformed m s) x y a b e f = a ∙ sym b
@@ -158,12 +158,12 @@ module _ (H : List (List ℕ)) (t t' : Table) (twins : AreTwins H t t') where
   does_twin hosted algorithms (Ask m r s) x y a b e f =
       let here : code_of x.outcome ≡ a.0.code = ap effect_code a.2 ∙ ask_code (request_algorithm algorithms r) s m r a.0 (decides_code hosted (request_algorithm algorithms r) t r Anyone a.0 a.1) in
       let there : code_of y.outcome ≡ b.0.code = ap effect_code b.2 ∙ ask_code (request_algorithm algorithms r) s m r b.0 (decides_code hosted (request_algorithm algorithms r) t' r Anyone b.0 b.1) in
-      a.2 ∙ ap (ask_effect (request_algorithm algorithms r) s m r) (decides_twin (request_algorithm algorithms r) r Anyone a.0 b.0 (refusal hosted r) a.1 b.1 (sym here ∙ e ∙ there) (λ is res. reads_public (is_held H (requests.handle_of r)))) ∙ sym b.2
+      a.2 ∙ ap (ask_effect (request_algorithm algorithms r) s m r) (decides_twin (request_algorithm algorithms r) r Anyone a.0 b.0 (refusal hosted r) a.1 b.1 (sym here ∙ e ∙ there) (λ is res. reads_public (is_authorised H (requests.handle_of r)))) ∙ sym b.2
   does_twin hosted algorithms (Inform m r site s) x y a b e f = a ∙ sym b
   does_twin hosted algorithms (Redeem m r p s) x y a b e f =
       let here : code_of x.outcome ≡ a.0.code = ap effect_code a.2 ∙ answer_code (algorithm_of p.digest) s m r a.0 (decides_code hosted (algorithm_of p.digest) t r (Proven p) a.0 a.1) in
       let there : code_of y.outcome ≡ b.0.code = ap effect_code b.2 ∙ answer_code (algorithm_of p.digest) s m r b.0 (decides_code hosted (algorithm_of p.digest) t' r (Proven p) b.0 b.1) in
-      a.2 ∙ ap (answer_effect (algorithm_of p.digest) s m r) (decides_twin (algorithm_of p.digest) r (Proven p) a.0 b.0 (refusal hosted r) a.1 b.1 (sym here ∙ e ∙ there) (λ is res. reads_kept (is_held H (requests.handle_of r)) p (f r refl res (here ∙ is)))) ∙ sym b.2
+      a.2 ∙ ap (answer_effect (algorithm_of p.digest) s m r) (decides_twin (algorithm_of p.digest) r (Proven p) a.0 b.0 (refusal hosted r) a.1 b.1 (sym here ∙ e ∙ there) (λ is res. reads_kept (is_authorised H (requests.handle_of r)) p (f r refl res (here ∙ is)))) ∙ sym b.2
 
   -- ---- writes of twins
 

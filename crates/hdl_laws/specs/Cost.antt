@@ -26,7 +26,7 @@ HaveAtMost most world [] = ⊤
 HaveAtMost most world (step ∷ turns) = HasAtMost world.table most × HaveAtMost most step.after turns
 
 -- the events have these outcomes and lead from one world to the other, and each read no more than a decision behind a proof
-abbrev pub RunReads : World → List Event → List Outcome → World → ℕ → ℕ → Type 0
-RunReads world es os world' old new =
+abbrev pub HasRunReads : World → List Event → List Outcome → World → ℕ → ℕ → Type 0
+HasRunReads world es os world' old new =
     (turns : List Turn) × IsRun world turns × (events turns ≡ es) × (outcomes turns ≡ os) × (last world turns ≡ world')
     × ((most : Most) → HaveAtMost most world turns → new ≤ old + length turns * proof_cost most)

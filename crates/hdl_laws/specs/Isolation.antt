@@ -21,7 +21,7 @@ use Rattle.hdl_ops.specs.Requests.{resolves, handle_of}
 use Rattle.hdl_events.specs.declared.Event.{Event}
 use Rattle.hdl_events.specs.declared.Outcome.{Outcome}
 use Rattle.hdl_events.specs.declared.Outcome.TheVariants.{Reply, Busy, Silent, CloseAfter}
-use Rattle.hdl_laws.specs.Worlds.{World, Site, owner, hosts, speech_for, lane_of}
+use Rattle.hdl_laws.specs.Worlds.{World, Site, owner, hosts, lane_profile_for, lane_of}
 use Rattle.hdl_laws.specs.Tasks.{Task, IsTask, Ignore, Break, Malformed, Unknown, Late, Deny, Ask, Inform, Redeem}
 use Rattle.hdl_laws.specs.Steps.{Turn}
 use Rattle.hdl_laws.specs.Runs.{is_busy}
@@ -137,12 +137,12 @@ IsQuiet site publisher cover world (step ∷ turns) = (IsFalse (is_mine site pub
 -- ---- twins
 
 -- the handle is one of those for which a resolution was authorised
-abbrev pub is_held : List (List ℕ) → List ℕ → Bool
-is_held authorised handle = list_any (same_handle handle) authorised
+abbrev pub is_authorised : List (List ℕ) → List ℕ → Bool
+is_authorised authorised handle = list_any (same_handle handle) authorised
 
 -- the value may be read: it is public, or kept at such a handle
 abbrev pub may_be_read : List (List ℕ) → List ℕ → Value → Bool
-may_be_read authorised handle value = is_public value || (is_kept value && is_held authorised handle)
+may_be_read authorised handle value = is_public value || (is_kept value && is_authorised authorised handle)
 
 -- the index and the permission alone
 abbrev pub without_content : Value → Value
@@ -185,7 +185,7 @@ proven_request (Inform message request site state) = None
 -- if the event's task decides a challenged resolution, and its outcome has code Success, then the resolution's handle is authorised
 abbrev pub AllowsTurn : List (List ℕ) → World → Turn → Type 0
 AllowsTurn authorised world step =
-    (task : Task) (request : Content) → IsTask (speech_for world.site (owner world.site step.event.lane)) (lane_of world step.event.lane) step.event.what task → proven_request task ≡ Some request → IsTrue (resolves request.operation) → code_of step.outcome ≡ response_number Success → IsTrue (is_held authorised (handle_of request))
+    (task : Task) (request : Content) → IsTask (lane_profile_for world.site (owner world.site step.event.lane)) (lane_of world step.event.lane) step.event.what task → proven_request task ≡ Some request → IsTrue (resolves request.operation) → code_of step.outcome ≡ response_number Success → IsTrue (is_authorised authorised (handle_of request))
 
 -- so is the handle of each challenged resolution that is answered Success
 abbrev pub Allows : List (List ℕ) → World → List Turn → Type 0

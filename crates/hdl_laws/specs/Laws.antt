@@ -8,12 +8,12 @@ use Rattle.hdl_events.specs.declared.Event.{Event}
 use Rattle.hdl_events.specs.declared.Outcome.{Outcome}
 use Rattle.hdl_laws.specs.Worlds.{World, Site, hosts}
 use Rattle.hdl_laws.specs.Steps.{Turn}
-use Rattle.hdl_laws.specs.Runs.{IsRun, Run, RunWithoutBusy, last, events, outcomes}
+use Rattle.hdl_laws.specs.Runs.{IsRun, HasRun, HasRunWithoutBusy, last, events, outcomes}
 use Rattle.hdl_laws.specs.Isolation.{IsClosed, IsCover, IsQuiet, is_mine, restrict, turns_of, AreTwinWorlds, Allows, code_of}
 
 -- two runs in a row are one run
 abbrev pub JoinsRuns : Type 0
-JoinsRuns = (world mid new : World) (es es' : List Event) (os os' : List Outcome) → Run world es os mid → Run mid es' os' new → Run world (es ++ es') (os ++ os') new
+JoinsRuns = (world mid new : World) (es es' : List Event) (os os' : List Outcome) → HasRun world es os mid → HasRun mid es' os' new → HasRun world (es ++ es') (os ++ os') new
 
 -- ---- isolation
 
@@ -35,7 +35,7 @@ KeepsCovers = (world : World) (turns : List Turn) (publisher : ℕ) (cover : Lis
 abbrev pub Isolates : World → List Turn → Type 0
 Isolates world turns =
     (publisher : ℕ) (cover : List Place) → IsCover publisher cover world turns → IsQuiet world.site publisher cover world turns
-    → RunWithoutBusy (restrict world publisher cover) (events (turns_of world.site publisher turns)) (outcomes (turns_of world.site publisher turns)) (restrict (last world turns) publisher cover)
+    → HasRunWithoutBusy (restrict world publisher cover) (events (turns_of world.site publisher turns)) (outcomes (turns_of world.site publisher turns)) (restrict (last world turns) publisher cover)
 
 -- the events with these outcomes isolate each publisher, whatever run they are
 abbrev pub Isolated : World → List Event → List Outcome → Type 0
@@ -47,7 +47,7 @@ RestrictsRuns = (world : World) (turns : List Turn) → HostsNoRoot world.site �
 
 -- a run in which no event is answered busy is determined by its events
 abbrev pub RunWithoutBusyIsOne : Type 0
-RunWithoutBusyIsOne = (world new new' : World) (es : List Event) (os os' : List Outcome) → RunWithoutBusy world es os new → RunWithoutBusy world es os' new' → (os ≡ os') × (new ≡ new')
+RunWithoutBusyIsOne = (world new new' : World) (es : List Event) (os os' : List Outcome) → HasRunWithoutBusy world es os new → HasRunWithoutBusy world es os' new' → (os ≡ os') × (new ≡ new')
 
 -- two quiet runs that agree in the publisher's events and in the restricted first worlds give it equal outcomes, and end in equal restricted
 -- worlds

@@ -1,5 +1,5 @@
 pub mod Lanes
-pub mod Speech
+pub mod LaneProfile
 pub mod Worlds
 pub mod Tasks
 pub mod Effects

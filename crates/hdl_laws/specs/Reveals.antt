@@ -19,10 +19,10 @@ use Rattle.hdl_events.specs.declared.Event.{Event}
 use Rattle.hdl_events.specs.declared.Outcome.{Outcome}
 use Rattle.hdl_events.specs.declared.Outcome.TheVariants.{Reply, Busy, Silent, CloseAfter}
 use Rattle.hdl_laws.specs.Lanes.{LaneState}
-use Rattle.hdl_laws.specs.Worlds.{World, owner, algorithms_for, lane_of, speech_for}
+use Rattle.hdl_laws.specs.Worlds.{World, owner, algorithms_for, lane_of, lane_profile_for}
 use Rattle.hdl_laws.specs.Tasks.{Message, Task, Ignore, Break, Malformed, Unknown, Late, Deny, Ask, Inform, Redeem, IsTask}
 use Rattle.hdl_laws.specs.Effects.{answer_octets, challenge_octets}
-use Rattle.hdl_laws.specs.Runs.{Steps}
+use Rattle.hdl_laws.specs.Runs.{HasStep}
 
 -- the reply with this code to a request that came as it is
 abbrev pub asked_octets : Algorithm → Table → Message → Content → LaneState → ℕ → List ℕ
@@ -53,11 +53,11 @@ IsReplyTo world lane task code octets = IsReplyBy (algorithms_for world.site (ow
 
 -- if the outcome is a reply, it is the one with its code to what the event comes to
 abbrev pub Reveals : World → Event → Outcome → Type 0
-Reveals world event outcome = (octets : List ℕ) → outcome ≡ Reply octets → (task : Task) × IsTask (speech_for world.site (owner world.site event.lane)) (lane_of world event.lane) event.what task × IsReplyTo world event.lane task (response_code_at octets) octets
+Reveals world event outcome = (octets : List ℕ) → outcome ≡ Reply octets → (task : Task) × IsTask (lane_profile_for world.site (owner world.site event.lane)) (lane_of world event.lane) event.what task × IsReplyTo world event.lane task (response_code_at octets) octets
 
 -- each step does
 abbrev pub StepsTell : Type 0
-StepsTell = (world new : World) (event : Event) (outcome : Outcome) → Steps world event outcome new → Reveals world event outcome
+StepsTell = (world new : World) (event : Event) (outcome : Outcome) → HasStep world event outcome new → Reveals world event outcome
 
 -- ---- what a reply announces
 
@@ -75,7 +75,7 @@ sent_by (CloseAfter octets) = Some octets
 
 -- what each step sends is such a reply
 abbrev pub StepsAnnounce : Type 0
-StepsAnnounce = (world new : World) (event : Event) (outcome : Outcome) (octets : List ℕ) → Steps world event outcome new → sent_by outcome ≡ Some octets → IsSelfTold octets
+StepsAnnounce = (world new : World) (event : Event) (outcome : Outcome) (octets : List ℕ) → HasStep world event outcome new → sent_by outcome ≡ Some octets → IsSelfTold octets
 
 -- ---- what is read
 

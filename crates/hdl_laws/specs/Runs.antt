@@ -23,12 +23,12 @@ abbrev pub outcomes : List Turn → List Outcome
 outcomes turns = map (λ step. step.outcome) turns
 
 -- the events can have these outcomes, and lead from one world to the other
-abbrev pub Run : World → List Event → List Outcome → World → Type 0
-Run world es os new = (turns : List Turn) × IsRun world turns × (events turns ≡ es) × (outcomes turns ≡ os) × (last world turns ≡ new)
+abbrev pub HasRun : World → List Event → List Outcome → World → Type 0
+HasRun world es os new = (turns : List Turn) × IsRun world turns × (events turns ≡ es) × (outcomes turns ≡ os) × (last world turns ≡ new)
 
 -- the event has this outcome, and leads from one world to the other
-abbrev pub Steps : World → Event → Outcome → World → Type 0
-Steps world event outcome new = (step : Turn) × IsStep world step × (step.event ≡ event) × (step.outcome ≡ outcome) × (step.after ≡ new)
+abbrev pub HasStep : World → Event → Outcome → World → Type 0
+HasStep world event outcome new = (step : Turn) × IsStep world step × (step.event ≡ event) × (step.outcome ≡ outcome) × (step.after ≡ new)
 
 -- ---- runs without Busy
 
@@ -42,5 +42,5 @@ IsRunWithoutBusy world [] = ⊤
 IsRunWithoutBusy world (step ∷ turns) = IsAnswer world step × IsRunWithoutBusy step.after turns
 
 -- the events have these outcomes where none is answered busy, and lead from one world to the other
-abbrev pub RunWithoutBusy : World → List Event → List Outcome → World → Type 0
-RunWithoutBusy world es os new = (turns : List Turn) × IsRunWithoutBusy world turns × (events turns ≡ es) × (outcomes turns ≡ os) × (last world turns ≡ new)
+abbrev pub HasRunWithoutBusy : World → List Event → List Outcome → World → Type 0
+HasRunWithoutBusy world es os new = (turns : List Turn) × IsRunWithoutBusy world turns × (events turns ≡ es) × (outcomes turns ≡ os) × (last world turns ≡ new)

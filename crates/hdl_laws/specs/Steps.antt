@@ -13,7 +13,7 @@ use Rattle.hdl_events.specs.declared.What.TheVariants.{Open, Bad, Close}
 use Rattle.hdl_events.specs.declared.Event.{Event}
 use Rattle.hdl_events.specs.declared.Outcome.{Outcome}
 use Rattle.hdl_events.specs.declared.Outcome.TheVariants.{Busy, Silent}
-use Rattle.hdl_laws.specs.Worlds.{World, owner, hosts, algorithms, lane_of, speech}
+use Rattle.hdl_laws.specs.Worlds.{World, owner, hosts, algorithms, lane_of, lane_profile}
 use Rattle.hdl_laws.specs.Tasks.{Received, Task, IsTask}
 use Rattle.hdl_laws.specs.Effects.{Effect, Does}
 
@@ -49,7 +49,7 @@ turn world event effect = record { event = event; outcome = effect.outcome; chan
 abbrev pub IsAnswerFor : World → Option ℕ → Turn → Type 0
 IsAnswerFor world None step = step ≡ record { event = step.event; outcome = Silent; change = None; after = world }
 IsAnswerFor world (Some publisher) step =
-    (effect : Effect) × (task : Task) × IsTask (speech world.site publisher) (lane_of world step.event.lane) step.event.what task
+    (effect : Effect) × (task : Task) × IsTask (lane_profile world.site publisher) (lane_of world step.event.lane) step.event.what task
     × Does (hosts world.site publisher) (algorithms world.site publisher) world.table task effect × (step ≡ turn world step.event effect)
 
 abbrev pub IsAnswer : World → Turn → Type 0

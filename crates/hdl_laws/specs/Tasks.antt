@@ -1,6 +1,6 @@
 -- What an event comes to before the table is looked at (docs/PROTOCOL.md, "One event").
 use Rattle.std.specs.Prelude.{◌≡◌, ℕ, ◌-◌, List, Bool, true, false, not, ◌&&◌, nat_lt, is_some, Option, Some, None, if◌then◌else◌, ◌⊎◌, drop, MatchBool}
-use Rattle.hdl_limits.specs.declared.TheConstants.{CHALLENGE_LIFE}
+use Rattle.hdl_limits.specs.declared.TheConstants.{CHALLENGE_LIFE_MILLIS}
 use Rattle.hdl_auth.specs.declared.algorithm.Algorithm.{Algorithm}
 use Rattle.hdl_auth.specs.Digest.{algorithm_of}
 use Rattle.hdl_frame.specs.declared.envelope.Envelope.{Envelope}
@@ -17,7 +17,7 @@ use Rattle.hdl_ops.specs.Requests.{Response, response_of}
 use Rattle.hdl_events.specs.declared.What.{What}
 use Rattle.hdl_events.specs.declared.What.TheVariants.{Open, Bad, Close}
 use Rattle.hdl_laws.specs.Lanes.{LaneState, fresh, with_partials}
-use Rattle.hdl_laws.specs.Speech.{Speech}
+use Rattle.hdl_laws.specs.LaneProfile.{LaneProfile}
 
 -- what a frame event brings
 pub record Received : Type 0 where
@@ -56,7 +56,7 @@ IsReading P (Some x) = P x
 
 -- the moment of the message is later than the challenge's by more than a challenge lives; an earlier moment counts as none
 abbrev pub is_late : Message → Pending → Bool
-is_late arrival challenge = nat_lt CHALLENGE_LIFE (arrival.moment - challenge.moment)
+is_late arrival challenge = nat_lt CHALLENGE_LIFE_MILLIS (arrival.moment - challenge.moment)
 
 -- the lane without the challenge that the message names
 abbrev pub without_challenge : LaneState → Message → LaneState
@@ -82,10 +82,10 @@ redeem_task takes_changes state arrival response challenge (Some request) =
     else due_task (without_challenge state arrival) arrival response challenge request
 
 -- a challenge response, by the challenge that it names
-abbrev pub IsResponseTask : Speech → LaneState → Message → Content → Response → Option Pending → Task → Type 0
-IsResponseTask speech state arrival request response None task = task ≡ Unknown arrival request state
-IsResponseTask speech state arrival request response (Some challenge) task =
-    (reading : Option Content) × IsReading (SpellsRequest speech.wire challenge.message) reading × (task ≡ redeem_task speech.takes_changes state arrival response challenge reading)
+abbrev pub IsResponseTask : LaneProfile → LaneState → Message → Content → Response → Option Pending → Task → Type 0
+IsResponseTask lane_profile state arrival request response None task = task ≡ Unknown arrival request state
+IsResponseTask lane_profile state arrival request response (Some challenge) task =
+    (reading : Option Content) × IsReading (SpellsRequest lane_profile.wire challenge.message) reading × (task ≡ redeem_task lane_profile.takes_changes state arrival response challenge reading)
 
 -- the site information that answers an operation: the lane's, for a question for it
 abbrev pub told_site : Option (List ℕ) → Operation → Option (List ℕ)
@@ -98,54 +98,54 @@ ask_task state arrival request None = Ask arrival request state
 ask_task state arrival request (Some site) = Inform arrival request site state
 
 -- the same, unless it is denied
-abbrev pub request_task : Speech → LaneState → Message → Content → Task
-request_task speech state arrival request =
-    if is_denied speech.takes_changes request.operation
+abbrev pub request_task : LaneProfile → LaneState → Message → Content → Task
+request_task lane_profile state arrival request =
+    if is_denied lane_profile.takes_changes request.operation
     then Deny arrival request state
-    else ask_task state arrival request (told_site speech.site request.operation)
+    else ask_task state arrival request (told_site lane_profile.site request.operation)
 
 -- a request, by whether it is a challenge response
-abbrev pub IsRequestTask : Speech → LaneState → Message → Content → Option Response → Task → Type 0
-IsRequestTask speech state arrival request None task = task ≡ request_task speech state arrival request
-IsRequestTask speech state arrival request (Some response) task =
-    IsResponseTask speech state arrival request response (challenge_of state.challenges.challenges arrival.peer arrival.envelope.session) task
+abbrev pub IsRequestTask : LaneProfile → LaneState → Message → Content → Option Response → Task → Type 0
+IsRequestTask lane_profile state arrival request None task = task ≡ request_task lane_profile state arrival request
+IsRequestTask lane_profile state arrival request (Some response) task =
+    IsResponseTask lane_profile state arrival request response (challenge_of state.challenges.challenges arrival.peer arrival.envelope.session) task
 
 -- a message, by its reading
-abbrev pub IsContentTask : Speech → LaneState → Message → Option Content → Task → Type 0
-IsContentTask speech state arrival None task = task ≡ Malformed arrival state
-IsContentTask speech state arrival (Some request) task = IsRequestTask speech state arrival request (response_of request.operation) task
+abbrev pub IsContentTask : LaneProfile → LaneState → Message → Option Content → Task → Type 0
+IsContentTask lane_profile state arrival None task = task ≡ Malformed arrival state
+IsContentTask lane_profile state arrival (Some request) task = IsRequestTask lane_profile state arrival request (response_of request.operation) task
 
 -- a message, by what it spells
-abbrev pub IsMessageTask : Speech → LaneState → Message → Task → Type 0
-IsMessageTask speech state arrival task = (reading : Option Content) × IsReading (SpellsRequest speech.wire arrival.message) reading × IsContentTask speech state arrival reading task
+abbrev pub IsMessageTask : LaneProfile → LaneState → Message → Task → Type 0
+IsMessageTask lane_profile state arrival task = (reading : Option Content) × IsReading (SpellsRequest lane_profile.wire arrival.message) reading × IsContentTask lane_profile state arrival reading task
 
 -- a piece, by the message that it makes whole; the lane's partial message of its key is then gone
-abbrev pub IsWholeTask : Speech → LaneState → LaneState → Received → Option (List ℕ) → Task → Type 0
-IsWholeTask speech kept gone received None task = task ≡ Ignore kept
-IsWholeTask speech kept gone received (Some message) task = IsMessageTask speech gone (message_from received message) task
+abbrev pub IsWholeTask : LaneProfile → LaneState → LaneState → Received → Option (List ℕ) → Task → Type 0
+IsWholeTask lane_profile kept gone received None task = task ≡ Ignore kept
+IsWholeTask lane_profile kept gone received (Some message) task = IsMessageTask lane_profile gone (message_from received message) task
 
 -- a piece, by what becomes of it
-abbrev pub IsPieceTask : Speech → LaneState → Received → Fate × List Partial → Task → Type 0
-IsPieceTask speech state received after task =
-    IsWholeTask speech (with_partials state after.1) (with_partials state (free_partial state.partials (key_of received.peer (envelope_at received.bytes)))) received
+abbrev pub IsPieceTask : LaneProfile → LaneState → Received → Fate × List Partial → Task → Type 0
+IsPieceTask lane_profile state received after task =
+    IsWholeTask lane_profile (with_partials state after.1) (with_partials state (free_partial state.partials (key_of received.peer (envelope_at received.bytes)))) received
     (whole_message after.0) task
 
 -- a frame, by its message or by the piece of one that it is
-abbrev pub IsFrameTask : Speech → LaneState → Received → Task → Type 0
-IsFrameTask speech state received task =
+abbrev pub IsFrameTask : LaneProfile → LaneState → Received → Task → Type 0
+IsFrameTask lane_profile state received task =
     MatchBool (is_truncated (envelope_at received.bytes))
-    (IsPieceTask speech state received (take_piece state.partials (piece_of received.peer received.bytes)) task)
-    (IsMessageTask speech state (message_from received (drop 20 received.bytes)) task)
+    (IsPieceTask lane_profile state received (take_piece state.partials (piece_of received.peer received.bytes)) task)
+    (IsMessageTask lane_profile state (message_from received (drop 20 received.bytes)) task)
 
 -- octets, by the frame that they are or are not
-abbrev pub IsOctetsTask : Speech → LaneState → Received → Task → Type 0
-IsOctetsTask speech state received task = (IsFrame received.bytes × IsFrameTask speech state received task) ⊎ ((¬ IsFrame received.bytes) × (task ≡ Ignore state))
+abbrev pub IsOctetsTask : LaneProfile → LaneState → Received → Task → Type 0
+IsOctetsTask lane_profile state received task = (IsFrame received.bytes × IsFrameTask lane_profile state received task) ⊎ ((¬ IsFrame received.bytes) × (task ≡ Ignore state))
 
-abbrev pub IsTask : Speech → LaneState → What → Task → Type 0
-IsTask speech state Open task = task ≡ Ignore (fresh true)
-IsTask speech state Close task = task ≡ Ignore (fresh false)
-IsTask speech state (Bad session request) task = task ≡ (if state.is_open then Break session request state else Ignore state)
-IsTask speech state (What.Frame peer moment nonce bytes) task =
+abbrev pub IsTask : LaneProfile → LaneState → What → Task → Type 0
+IsTask lane_profile state Open task = task ≡ Ignore (fresh true)
+IsTask lane_profile state Close task = task ≡ Ignore (fresh false)
+IsTask lane_profile state (Bad session request) task = task ≡ (if state.is_open then Break session request state else Ignore state)
+IsTask lane_profile state (What.Frame peer moment nonce bytes) task =
     MatchBool state.is_open
-    (IsOctetsTask speech state (record { peer = peer; moment = moment; nonce = nonce; bytes = bytes }) task)
+    (IsOctetsTask lane_profile state (record { peer = peer; moment = moment; nonce = nonce; bytes = bytes }) task)
     (task ≡ Ignore state)

@@ -10,7 +10,7 @@ use Rattle.hdl_rows.specs.Table.{Table}
 use Rattle.hdl_tenants.specs.Register.{Hosting, SiteInfo, hosts_among, algorithm_among, site_among}
 use Rattle.hdl_ops.specs.Decisions.{told_by}
 use Rattle.hdl_laws.specs.Lanes.{LaneState, fresh}
-use Rattle.hdl_laws.specs.Speech.{Speech}
+use Rattle.hdl_laws.specs.LaneProfile.{LaneProfile}
 
 -- which publisher owns a lane, which prefixes are hosted for whom, each with its hash function, by whose layout a publisher's lanes
 -- speak, the site information of publishers, and whether changes are taken
@@ -54,13 +54,13 @@ abbrev pub layout : Site → ℕ → Wire
 layout site publisher = unwrap_or (map.get site.layouts publisher) Profile
 
 -- how the publisher's lanes speak: by its layout, with its own site information, and by whether the service takes changes
-abbrev pub speech : Site → ℕ → Speech
-speech site publisher = record { wire = layout site publisher; site = told_by (layout site publisher) (site_among site.sites publisher); takes_changes = site.takes_changes }
+abbrev pub lane_profile : Site → ℕ → LaneProfile
+lane_profile site publisher = record { wire = layout site publisher; site = told_by (layout site publisher) (site_among site.sites publisher); takes_changes = site.takes_changes }
 
 -- the same by a lane's owner
-abbrev pub speech_for : Site → Option ℕ → Speech
-speech_for site None = record { wire = Profile; site = None; takes_changes = true }
-speech_for site (Some publisher) = speech site publisher
+abbrev pub lane_profile_for : Site → Option ℕ → LaneProfile
+lane_profile_for site None = record { wire = Profile; site = None; takes_changes = true }
+lane_profile_for site (Some publisher) = lane_profile site publisher
 
 -- a lane of which nothing is kept is closed
 abbrev pub lane_of : World → ℕ → LaneState

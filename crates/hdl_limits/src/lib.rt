@@ -33,7 +33,7 @@ pub const PUBLISHER_NAME_MAX: usize = 32;
 pub const CHALLENGES_MAX: usize = 8;
 
 /// How long a challenge is valid, in milliseconds.
-pub const CHALLENGE_LIFE: u64 = 60_000;
+pub const CHALLENGE_LIFE_MILLIS: u64 = 60_000;
 
 /// The maximum of partial messages of a lane.
 pub const PARTIALS_MAX: usize = 4;
@@ -85,7 +85,7 @@ pub fn numbers()
     ensures lanes { LANES ≡ 64 }
     ensures publisher_name { PUBLISHER_NAME_MAX ≡ 32 }
     ensures challenges { CHALLENGES_MAX ≡ 8 }
-    ensures challenge_life { CHALLENGE_LIFE ≡ 60000 }
+    ensures challenge_life { CHALLENGE_LIFE_MILLIS ≡ 60000 }
     ensures partials { PARTIALS_MAX ≡ 4 }
     ensures peers { PEERS_MAX ≡ 1024 }
     ensures under_way { UNDER_WAY_MAX ≡ 16 }

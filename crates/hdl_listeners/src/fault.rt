@@ -1,6 +1,6 @@
 //! Why a server ends with a fault line.
 
-use hdl_members::ListFault;
+use hdl_change_list::ListFault;
 use hdl_programs::Fault;
 use std::alloc::{AllocError, AllocFailed};
 use std::fmt;

@@ -6,7 +6,7 @@ use crate::fault::HostFault;
 use crate::listening::{PublisherSockets, or_device_fault};
 use crate::reporter::{Reporter, run_reporter};
 use crate::status::StatusPage;
-use hdl_members::Standing;
+use hdl_change_list::ClusterStatus;
 use hdl_programs::Fault;
 use hdl_sockets::ShutdownFlag;
 use hdl_telemetry::{
@@ -53,7 +53,7 @@ pub struct Monitoring {
     /// Whether the server is asked to end.
     pub shutdown: Arc<ShutdownFlag>,
     /// How the server stands beside others, if others have its table.
-    pub beside: Option<Arc<Standing>>,
+    pub beside: Option<Arc<ClusterStatus>>,
 }
 
 impl Monitoring {
@@ -160,7 +160,7 @@ fn log_status_of(monitoring: &Monitoring) -> Result<Option<Arc<LogStatus>>, Allo
 }
 
 /// How the server stands beside others, if others have its table.
-fn standing_of(monitoring: &Monitoring) -> Result<Option<Arc<Standing>>, AllocError> {
+fn standing_of(monitoring: &Monitoring) -> Result<Option<Arc<ClusterStatus>>, AllocError> {
     match &monitoring.beside {
         Some(standing) => Ok(Some(Arc::try_clone(standing)?)),
         None => Ok(None),

@@ -1,7 +1,7 @@
 //! The page that says how a server is, over HTTP: `/health` and `/metrics`.
 
 use crate::clients::{RequestHandler, Response};
-use hdl_members::Standing;
+use hdl_change_list::ClusterStatus;
 use hdl_programs::VERSION;
 use hdl_telemetry::{Counts, Health, LogStatus, ProcessMetrics};
 use httparse::Status;
@@ -27,7 +27,7 @@ pub struct StatusPage {
     /// How the lines of the log go, where there is one.
     pub log: Option<Arc<LogStatus>>,
     /// How the server stands beside the others, if others have its table.
-    pub beside: Option<Arc<Standing>>,
+    pub beside: Option<Arc<ClusterStatus>>,
 }
 
 /// What is answered: what follows the version, the kind of the body, and the body.

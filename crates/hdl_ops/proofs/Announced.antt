@@ -21,10 +21,10 @@ use Rattle.hdl_ops.specs.First.{first, or_code}
 use Rattle.hdl_ops.specs.Admission.{refusal}
 use Rattle.hdl_ops.specs.Decisions.{Level, Proven, Decision, Decides, DecidesBy, decision, success, failure, refusal_decision, carried_content, carried_by}
 use Rattle.hdl_ops.specs.Laws.{content_by_code}
-use Rattle.hdl_ops.specs.Proven.{Proof, key_of, value_at, code_before_key, code_behind_key, code_for_key, IsCodeBy}
+use Rattle.hdl_ops.specs.Proven.{Proof, key_of, value_at, code_before_key, code_after_key, code_for_key, IsCodeBy}
 use Rattle.hdl_ops.specs.Replies.{digest_of, asked_digest, fits, reply_to, challenge_to}
 use Rattle.hdl_ops.specs.Requests.{sent_handle, is_unused, wants_digest}
-use Rattle.hdl_ops.specs.Sights.{Sight, sight}
+use Rattle.hdl_ops.specs.Sights.{TableView, sight}
 use Rattle.hdl_ops.proofs.Codes.{codes_pass, tells_by_code_lem}
 
 -- ---- the digest
@@ -49,7 +49,7 @@ digest_announced a r code e = is_some_if (wants_digest r) (digest_of a r) ∙ sy
 
 -- ---- the form of the content
 
-carried_form : (o : Operation) (s : Sight) (r : Content) (level : Level) → is_unused o ≡ false → form_of (carried_by o s r level) ≡ success_form (code_of o)
+carried_form : (o : Operation) (s : TableView) (r : Content) (level : Level) → is_unused o ≡ false → form_of (carried_by o s r level) ≡ success_form (code_of o)
 carried_form (resolution handle indexes types) s r level e = refl
 carried_form (create handle values) s r level e = refl
 carried_form (delete handle) s r level e = refl
@@ -120,12 +120,12 @@ challenge_announced_lem a moment session number r nonce = record { digest = sym 
 abbrev no_challenge : ℕ → Bool
 no_challenge c = not (c == 402)
 
-before_code : (s : Sight) (r : Content) (p : Proof) → IsTrue (no_challenge (or_code (code_before_key s r p) 0))
+before_code : (s : TableView) (r : Content) (p : Proof) → IsTrue (no_challenge (or_code (code_before_key s r p) 0))
 unfolding code_before_key
 before_code s r p = codes_pass no_challenge _ 0 refl refl
 
-key_code : (s : Sight) (r : Content) (p : Proof) (m : Option ℕ) (k : Option Value) → IsTrue (no_challenge (code_for_key s r p m k))
-unfolding code_behind_key
+key_code : (s : TableView) (r : Content) (p : Proof) (m : Option ℕ) (k : Option Value) → IsTrue (no_challenge (code_for_key s r p m k))
+unfolding code_after_key
 key_code s r p None k = refl
 key_code s r p (Some m) k = codes_pass no_challenge _ 1 refl refl
 
@@ -137,7 +137,7 @@ refusal_code : (hosts : List ℕ → Bool) (r : Content) → IsTrue (no_challeng
 unfolding refusal
 refusal_code hosts r = codes_pass no_challenge _ 0 refl refl
 
-decision_code : (a : Algorithm) (s : Sight) (r : Content) (level : Level) (c : ℕ) → IsTrue (no_challenge c) → IsTrue (no_challenge (decision a s r level c).code)
+decision_code : (a : Algorithm) (s : TableView) (r : Content) (level : Level) (c : ℕ) → IsTrue (no_challenge c) → IsTrue (no_challenge (decision a s r level c).code)
 unfolding decision
 decision_code a s r level c f = pick (c == 1) (fits a r (carried_content s r level))
   where

@@ -17,9 +17,9 @@ use Rattle.hdl_ops.specs.Requests.{handle_of, creates, resolves, with_stored, st
 use Rattle.hdl_ops.proofs.Stored.{any_stored}
 use Rattle.hdl_ops.specs.Tables.{CanApply}
 use Rattle.hdl_ops.specs.Admission.{refusal, has_twins, is_bad_list, are_bad, is_bad_write}
-use Rattle.hdl_ops.specs.Sights.{Sight, sight, passes, passes_at}
+use Rattle.hdl_ops.specs.Sights.{TableView, sight, passes, passes_at}
 use Rattle.hdl_ops.specs.Anyone.{is_open, is_open_write, code_for_anyone}
-use Rattle.hdl_ops.specs.Proven.{Proof, misses_at, takes_at, misses, takes, code_before_key, code_behind_key, code_for_key, value_at, key_of, IsCodeBy}
+use Rattle.hdl_ops.specs.Proven.{Proof, misses_at, takes_at, misses, takes, code_before_key, code_after_key, code_for_key, value_at, key_of, IsCodeBy}
 use Rattle.hdl_ops.specs.Decisions.{Level, Anyone, Proven, Decision, success, failure, carried_content, change_of, decision, DecidesBy}
 use Rattle.hdl_auth.specs.declared.algorithm.Algorithm.{Algorithm}
 use Rattle.hdl_ops.specs.Replies.{fits}
@@ -114,7 +114,7 @@ passing_is_there test (Some v) h = refl
 -- ---- what a decision with code 1 knows of the table
 
 -- the handle is absent for a create and there for all else, and no value is missing or in the way
-abbrev Stands : Sight → Operation → Type 0
+abbrev Stands : TableView → Operation → Type 0
 Stands s o = ((creates o && s.there) ≡ false) × ((not (creates o) && not s.there) ≡ false) × (misses o s.values ≡ false) × (takes o s.values ≡ false)
 
 not_false : (b : Bool) → not b ≡ false → b ≡ true
@@ -122,27 +122,27 @@ not_false true h = refl
 not_false false h = absurd (true≢false h)
 
 -- such a change can be applied
-changes : (t : Table) (wire : Wire) (header : Header) (o : Operation) (s : Sight) → s ≡ sight t (record { wire = wire; header = header; operation = o }) → HaveTheirIndexes t (handle_of (record { wire = wire; header = header; operation = o })) s.values
+changes : (t : Table) (wire : Wire) (header : Header) (o : Operation) (s : TableView) → s ≡ sight t (record { wire = wire; header = header; operation = o }) → HaveTheirIndexes t (handle_of (record { wire = wire; header = header; operation = o })) s.values
     → is_bad_write (with_stored wire o) ≡ false → Stands s o → IfSome (change_of (with_stored wire o)) (CanApply t)
 unfolding sight handle_of
 changes t wire header (resolution handle is ts) s see by good stands = tt
 changes t wire header (create handle vs) s see by good stands =
-    (sym (ap (λ (x : Sight). x.there) see) ∙ stands.0, good_values (map (stored_by wire) vs) (or_false (are_bad (map (stored_by wire) vs)) (not (list_any is_admin (map (stored_by wire) vs))) good).0)
-changes t wire header (delete handle) s see by good stands = sym (ap (λ (x : Sight). x.there) see) ∙ not_false s.there stands.1
+    (sym (ap (λ (x : TableView). x.there) see) ∙ stands.0, good_values (map (stored_by wire) vs) (or_false (are_bad (map (stored_by wire) vs)) (not (list_any is_admin (map (stored_by wire) vs))) good).0)
+changes t wire header (delete handle) s see by good stands = sym (ap (λ (x : TableView). x.there) see) ∙ not_false s.there stands.1
 changes t wire header (add handle vs) s see by good stands = (
-  sym (ap (λ (x : Sight). x.there) see) ∙ not_false s.there stands.1,
+  sym (ap (λ (x : TableView). x.there) see) ∙ not_false s.there stands.1,
   good_values (map (stored_by wire) vs) good,
   of_keys (λ v. v.index) (λ i. at t (place (canonical handle) i) ≡ None) (map (stored_by wire) vs)
       (none_passes (λ n. takes_at s.values n.index) (λ n. at t (place (canonical handle) n.index) ≡ None) (λ n e. absent_by s.values t (canonical handle) n.index by e) (map (stored_by wire) vs)
       (any_stored wire (λ n. takes_at s.values n.index) (λ v. refl) vs ∙ stands.3)),
 )
 changes t wire header (remove handle is) s see by good stands = (
-  sym (ap (λ (x : Sight). x.there) see) ∙ not_false s.there stands.1,
+  sym (ap (λ (x : TableView). x.there) see) ∙ not_false s.there stands.1,
   good_indexes is good,
   none_passes (misses_at s.values) (λ i. at t (place (canonical handle) i) ≢ None) (λ i e. there_by s.values t (canonical handle) i by e) is stands.2,
 )
 changes t wire header (modify handle vs) s see by good stands = (
-  sym (ap (λ (x : Sight). x.there) see) ∙ not_false s.there stands.1,
+  sym (ap (λ (x : TableView). x.there) see) ∙ not_false s.there stands.1,
   good_values (map (stored_by wire) vs) good,
   of_keys (λ v. v.index) (λ i. at t (place (canonical handle) i) ≢ None) (map (stored_by wire) vs)
       (none_passes (λ n. misses_at s.values n.index) (λ n. at t (place (canonical handle) n.index) ≢ None) (λ n e. there_by s.values t (canonical handle) n.index by e) (map (stored_by wire) vs)
@@ -177,7 +177,7 @@ open_stands (site_info octets) vs h = (refl, refl)
 open_stands (other octets) vs h = (refl, refl)
 
 -- a resolution changes nothing
-anyone_stands : (t : Table) (wire : Wire) (header : Header) (o : Operation) (s : Sight) → s ≡ sight t (record { wire = wire; header = header; operation = o }) → HaveTheirIndexes t (handle_of (record { wire = wire; header = header; operation = o })) s.values
+anyone_stands : (t : Table) (wire : Wire) (header : Header) (o : Operation) (s : TableView) → s ≡ sight t (record { wire = wire; header = header; operation = o }) → HaveTheirIndexes t (handle_of (record { wire = wire; header = header; operation = o })) s.values
     → is_bad_write (with_stored wire o) ≡ false → code_for_anyone s (record { wire = wire; header = header; operation = o }) ≡ 1 → IfSome (change_of (with_stored wire o)) (CanApply t)
 unfolding code_for_anyone
 anyone_stands t wire header o s see by good one =
@@ -207,8 +207,8 @@ anyone_stands t wire header o s see by good one =
 
 -- ---- with a proof
 
-behind : (s : Sight) (r : Content) (p : Proof) (mask : ℕ) (key : Option Value) → code_behind_key s r p mask key ≡ 1 → (misses r.operation s.values ≡ false) × (takes r.operation s.values ≡ false)
-unfolding code_behind_key
+behind : (s : TableView) (r : Content) (p : Proof) (mask : ℕ) (key : Option Value) → code_after_key s r p mask key ≡ 1 → (misses r.operation s.values ≡ false) × (takes r.operation s.values ≡ false)
+unfolding code_after_key
 behind s r p mask key one =
     let key = past_row _ 406 _ 1 (λ e. omega (arith, e)) one in
     let right = past_row _ 403 _ 1 (λ e. omega (arith, e)) key.1 in
@@ -216,7 +216,7 @@ behind s r p mask key one =
     let taken = past_row (takes r.operation s.values) 201 _ 1 (λ e. omega (arith, e)) missing.1 in
     (missing.0, taken.0)
 
-before : (s : Sight) (r : Content) (p : Proof) → code_before_key s r p ≡ None → ((creates r.operation && s.there) ≡ false) × ((not (creates r.operation) && not s.there) ≡ false)
+before : (s : TableView) (r : Content) (p : Proof) → code_before_key s r p ≡ None → ((creates r.operation && s.there) ≡ false) × ((not (creates r.operation) && not s.there) ≡ false)
 unfolding code_before_key
 before s r p none =
     let kind = no_row _ 406 _ none in
@@ -226,7 +226,7 @@ before s r p none =
     (there.0, absent.0)
 
 -- what is refused before administrators are looked for has no code 1
-early : (s : Sight) (r : Content) (p : Proof) → or_code (code_before_key s r p) 0 ≡ 1 → ⊥
+early : (s : TableView) (r : Content) (p : Proof) → or_code (code_before_key s r p) 0 ≡ 1 → ⊥
 unfolding code_before_key
 early s r p one =
     let kind = past_row _ 406 _ 0 (λ e. omega (arith, e)) one in
@@ -235,7 +235,7 @@ early s r p one =
     let absent = past_row _ 100 _ 0 (λ e. omega (arith, e)) there.1 in
     no_rows_left absent.1
 
-key_stands : (t : Table) (s : Sight) (r : Content) (p : Proof) (o : Option ℕ) (code : ℕ) → code_before_key s r p ≡ o → s ≡ sight t r → IsCodeBy t r p o code → code ≡ 1 → Stands s r.operation
+key_stands : (t : Table) (s : TableView) (r : Content) (p : Proof) (o : Option ℕ) (code : ℕ) → code_before_key s r p ≡ o → s ≡ sight t r → IsCodeBy t r p o code → code ≡ 1 → Stands s r.operation
 key_stands t s r p (Some c) code e see is one = absurd (early s r p (ap (λ x. or_code x 0) e ∙ sym is ∙ one))
 key_stands t s r p None code e see is one = by_mask is.0 (sym is.2 ∙ one)
   where
@@ -243,12 +243,12 @@ key_stands t s r p None code e see is one = by_mask is.0 (sym is.2 ∙ one)
     by_mask None h = absurd (omega (arith, h))
     by_mask (Some mask) h =
         let b = before s r p e in
-        let free = behind s r p mask (value_at t (key_of p)) (ap (λ (x : Sight). code_behind_key x r p mask (value_at t (key_of p))) see ∙ h) in
+        let free = behind s r p mask (value_at t (key_of p)) (ap (λ (x : TableView). code_after_key x r p mask (value_at t (key_of p))) see ∙ h) in
         (b.0, b.1, free.0, free.1)
 
 -- ---- the decision
 
-by_code : (a : Algorithm) (t : Table) (s : Sight) (r : Content) (level : Level) (code : ℕ) → (code ≡ 1 → IfSome (change_of (stored_operation r)) (CanApply t)) → IfSome (decision a s r level code).change (CanApply t)
+by_code : (a : Algorithm) (t : Table) (s : TableView) (r : Content) (level : Level) (code : ℕ) → (code ≡ 1 → IfSome (change_of (stored_operation r)) (CanApply t)) → IfSome (decision a s r level code).change (CanApply t)
 unfolding decision
 by_code a t s r level code f = by_test (code == 1) refl (fits a r (carried_content s r level))
   where

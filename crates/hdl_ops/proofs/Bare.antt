@@ -16,9 +16,9 @@ use Rattle.hdl_msg.specs.declared.codes.ResponseCode.TheVariants.{Success, Handl
 use Rattle.hdl_msg.specs.Message.{Content, Operation, resolution, site_info, create, delete, add, remove, modify, list, response, other}
 use Rattle.hdl_ops.specs.First.{first, or_code}
 use Rattle.hdl_ops.specs.Requests.{resolves, creates, is_public_only}
-use Rattle.hdl_ops.specs.Sights.{Sight, sight, bare, passes, passes_at, is_named, asks}
+use Rattle.hdl_ops.specs.Sights.{TableView, sight, bare, passes, passes_at, is_named, asks}
 use Rattle.hdl_ops.specs.Anyone.{is_left, is_open, is_open_write, code_for_anyone}
-use Rattle.hdl_ops.specs.Proven.{Proof, code_before_key, code_behind_key, code_for_key, key_of, value_at, is_right, misses_at, takes_at, misses, takes, remove_needs, modify_needs, is_allowed, is_locked_at, is_locked, overfills, is_asked, IsCodeForKey, IsCodeBy, IsCodeForProof}
+use Rattle.hdl_ops.specs.Proven.{Proof, code_before_key, code_after_key, code_for_key, key_of, value_at, is_right, misses_at, takes_at, misses, takes, remove_needs, modify_needs, is_allowed, is_locked_at, is_locked, overfills, is_asked, IsCodeForKey, IsCodeBy, IsCodeForProof}
 use Rattle.hdl_ops.specs.Decisions.{Level, Anyone, Proven, Decision, decision}
 
 -- ---- tests of heads
@@ -171,7 +171,7 @@ asked_head r v = λ k. asks_head r.operation v k && (is_public v || is_kept v)
 
 -- ---- codes
 
-pub anyone_bare : (s : Sight) (r : Content) → code_for_anyone (bare s) r ≡ code_for_anyone s r
+pub anyone_bare : (s : TableView) (r : Content) → code_for_anyone (bare s) r ≡ code_for_anyone s r
 unfolding code_for_anyone
 anyone_bare s r = λ k. or_code (first
     ((creates r.operation && s.there, response_number HandleAlreadyExists)
@@ -182,12 +182,12 @@ anyone_bare s r = λ k. or_code (first
     ∷ (open_write r.operation s.values k, response_number Success)
     ∷ [])) (response_number AuthenticationNeeded)
 
-pub before_bare : (s : Sight) (r : Content) (p : Proof) → code_before_key (bare s) r p ≡ code_before_key s r p
+pub before_bare : (s : TableView) (r : Content) (p : Proof) → code_before_key (bare s) r p ≡ code_before_key s r p
 unfolding code_before_key
 before_bare s r p = refl
 
-behind_bare : (s : Sight) (r : Content) (p : Proof) (m : ℕ) (key : Option Value) → code_behind_key (bare s) r p m key ≡ code_behind_key s r p m key
-unfolding code_behind_key
+behind_bare : (s : TableView) (r : Content) (p : Proof) (m : ℕ) (key : Option Value) → code_after_key (bare s) r p m key ≡ code_after_key s r p m key
+unfolding code_after_key
 behind_bare s r p m key = λ k. or_code (first
     ((not (passes is_secret_key key), response_number UnableToAuthenticate)
     ∷ (not (is_right key p), response_number AuthenticationFailed)
@@ -198,22 +198,22 @@ behind_bare s r p m key = λ k. or_code (first
     ∷ (resolves r.operation && not (any_heads (is_asked r) (asked_head r) s.values k), response_number ValueNotFound)
     ∷ [])) (response_number Success)
 
-key_bare : (s : Sight) (r : Content) (p : Proof) (m : Option ℕ) (k : Option Value) → code_for_key (bare s) r p m k ≡ code_for_key s r p m k
+key_bare : (s : TableView) (r : Content) (p : Proof) (m : Option ℕ) (k : Option Value) → code_for_key (bare s) r p m k ≡ code_for_key s r p m k
 key_bare s r p None k = refl
 key_bare s r p (Some m) k = behind_bare s r p m k
 
 -- ---- the code for a proof, by heads alone
 
-pub by_early : (t : Table) (r : Content) (p : Proof) (seen : Sight) (code : ℕ) → seen ≡ bare (sight t r) → code_before_key seen r p ≡ Some code → IsCodeForProof t r p code
+pub by_early : (t : Table) (r : Content) (p : Proof) (seen : TableView) (code : ℕ) → seen ≡ bare (sight t r) → code_before_key seen r p ≡ Some code → IsCodeForProof t r p code
 by_early t r p seen code is early =
-    let e : code_before_key (sight t r) r p ≡ Some code = sym (before_bare (sight t r) r p) ∙ ap (λ (s : Sight). code_before_key s r p) (sym is) ∙ early in
+    let e : code_before_key (sight t r) r p ≡ Some code = sym (before_bare (sight t r) r p) ∙ ap (λ (s : TableView). code_before_key s r p) (sym is) ∙ early in
     subst (λ (o : Option ℕ). IsCodeBy t r p o code) (sym e) refl
 
-pub by_key : (t : Table) (r : Content) (p : Proof) (seen : Sight) (code : ℕ) → seen ≡ bare (sight t r) → code_before_key seen r p ≡ None → IsCodeForKey t seen r p code → IsCodeForProof t r p code
+pub by_key : (t : Table) (r : Content) (p : Proof) (seen : TableView) (code : ℕ) → seen ≡ bare (sight t r) → code_before_key seen r p ≡ None → IsCodeForKey t seen r p code → IsCodeForProof t r p code
 by_key t r p seen code is early for_key =
-    let e : code_before_key (sight t r) r p ≡ None = sym (before_bare (sight t r) r p) ∙ ap (λ (s : Sight). code_before_key s r p) (sym is) ∙ early in
+    let e : code_before_key (sight t r) r p ≡ None = sym (before_bare (sight t r) r p) ∙ ap (λ (s : TableView). code_before_key s r p) (sym is) ∙ early in
     let v = value_at t (key_of p) in
-    let same : code_for_key seen r p for_key.0 v ≡ code_for_key (sight t r) r p for_key.0 v = ap (λ (s : Sight). code_for_key s r p for_key.0 v) is ∙ key_bare (sight t r) r p for_key.0 v in
+    let same : code_for_key seen r p for_key.0 v ≡ code_for_key (sight t r) r p for_key.0 v = ap (λ (s : TableView). code_for_key s r p for_key.0 v) is ∙ key_bare (sight t r) r p for_key.0 v in
     subst (λ (o : Option ℕ). IsCodeBy t r p o code) (sym e) (for_key.0, for_key.1, for_key.2 ∙ same)
 
 -- ---- what fails tells of nothing that is seen
@@ -222,31 +222,31 @@ one_branch : {A : Type 0} (b : Bool) (x y z : A) → b ≡ false → cond b x z 
 one_branch true x y z e = absurd (true≢false e)
 one_branch false x y z e = refl
 
-pub failure_alike : (a : Algorithm) (s u : Sight) (r : Content) (level : Level) (code : ℕ) → (code == response_number Success) ≡ false → decision a s r level code ≡ decision a u r level code
+pub failure_alike : (a : Algorithm) (s u : TableView) (r : Content) (level : Level) (code : ℕ) → (code == response_number Success) ≡ false → decision a s r level code ≡ decision a u r level code
 unfolding decision
 failure_alike a s u r level code e = one_branch (code == response_number Success) _ _ _ e
 
 -- ---- the decision for anyone
 
-pub anyone_failed : (a : Algorithm) (t : Table) (r : Content) (seen : Sight) (code : ℕ) (d : Decision) → seen ≡ bare (sight t r) → code ≡ code_for_anyone seen r → (code == response_number Success) ≡ false
+pub anyone_failed : (a : Algorithm) (t : Table) (r : Content) (seen : TableView) (code : ℕ) (d : Decision) → seen ≡ bare (sight t r) → code ≡ code_for_anyone seen r → (code == response_number Success) ≡ false
     → d ≡ decision a seen r Anyone code → d ≡ decision a (sight t r) r Anyone (code_for_anyone (sight t r) r)
 anyone_failed a t r seen code d is coded fails decided =
-    decided ∙ failure_alike a seen (sight t r) r Anyone code fails ∙ ap (decision a (sight t r) r Anyone) (coded ∙ ap (λ (s : Sight). code_for_anyone s r) is ∙ anyone_bare (sight t r) r)
+    decided ∙ failure_alike a seen (sight t r) r Anyone code fails ∙ ap (decision a (sight t r) r Anyone) (coded ∙ ap (λ (s : TableView). code_for_anyone s r) is ∙ anyone_bare (sight t r) r)
 
-pub anyone_granted : (a : Algorithm) (t u : Table) (r : Content) (seen more : Sight) (code : ℕ) (d : Decision) → u ≡ t → seen ≡ bare (sight t r) → code ≡ code_for_anyone seen r → code ≡ response_number Success
+pub anyone_granted : (a : Algorithm) (t u : Table) (r : Content) (seen more : TableView) (code : ℕ) (d : Decision) → u ≡ t → seen ≡ bare (sight t r) → code ≡ code_for_anyone seen r → code ≡ response_number Success
     → decision a more r Anyone (response_number Success) ≡ decision a (sight u r) r Anyone (response_number Success) → d ≡ decision a more r Anyone code → d ≡ decision a (sight t r) r Anyone (code_for_anyone (sight t r) r)
 anyone_granted a t u r seen more code d same is coded granted read decided =
     decided ∙ ap (decision a more r Anyone) granted ∙ read ∙ ap (λ (v : Table). decision a (sight v r) r Anyone (response_number Success)) same
-    ∙ ap (decision a (sight t r) r Anyone) (sym granted ∙ coded ∙ ap (λ (s : Sight). code_for_anyone s r) is ∙ anyone_bare (sight t r) r)
+    ∙ ap (decision a (sight t r) r Anyone) (sym granted ∙ coded ∙ ap (λ (s : TableView). code_for_anyone s r) is ∙ anyone_bare (sight t r) r)
 
 -- ---- the decision for a proof
 
-pub proof_failed : (a : Algorithm) (t u : Table) (r : Content) (p : Proof) (seen : Sight) (code : ℕ) (d : Decision) → u ≡ t → IsCodeForProof u r p code → (code == response_number Success) ≡ false
+pub proof_failed : (a : Algorithm) (t u : Table) (r : Content) (p : Proof) (seen : TableView) (code : ℕ) (d : Decision) → u ≡ t → IsCodeForProof u r p code → (code == response_number Success) ≡ false
     → d ≡ decision a seen r (Proven p) code → (c : ℕ) × IsCodeForProof t r p c × (d ≡ decision a (sight t r) r (Proven p) c)
 proof_failed a t u r p seen code d same coded fails decided =
     (code, subst (λ (v : Table). IsCodeForProof v r p code) same coded, decided ∙ failure_alike a seen (sight t r) r (Proven p) code fails)
 
-pub proof_granted : (a : Algorithm) (t u v : Table) (r : Content) (p : Proof) (more : Sight) (code : ℕ) (d : Decision) → u ≡ t → v ≡ t → IsCodeForProof u r p code → code ≡ response_number Success
+pub proof_granted : (a : Algorithm) (t u v : Table) (r : Content) (p : Proof) (more : TableView) (code : ℕ) (d : Decision) → u ≡ t → v ≡ t → IsCodeForProof u r p code → code ≡ response_number Success
     → decision a more r (Proven p) (response_number Success) ≡ decision a (sight v r) r (Proven p) (response_number Success) → d ≡ decision a more r (Proven p) code
     → (c : ℕ) × IsCodeForProof t r p c × (d ≡ decision a (sight t r) r (Proven p) c)
 proof_granted a t u v r p more code d same again coded granted read decided = (

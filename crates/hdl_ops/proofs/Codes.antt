@@ -11,9 +11,9 @@ use Rattle.hdl_msg.specs.declared.replies.ReplyContent.TheVariants.{Referral, Em
 use Rattle.hdl_ops.specs.First.{first, or_code}
 use Rattle.hdl_ops.specs.Admission.{refusal}
 use Rattle.hdl_ops.specs.Requests.{sent_handle}
-use Rattle.hdl_ops.specs.Sights.{Sight, sight}
+use Rattle.hdl_ops.specs.Sights.{TableView, sight}
 use Rattle.hdl_ops.specs.Anyone.{code_for_anyone}
-use Rattle.hdl_ops.specs.Proven.{Proof, key_of, value_at, code_before_key, code_behind_key, code_for_key, IsCodeBy}
+use Rattle.hdl_ops.specs.Proven.{Proof, key_of, value_at, code_before_key, code_after_key, code_for_key, IsCodeBy}
 use Rattle.hdl_auth.specs.declared.algorithm.Algorithm.{Algorithm}
 use Rattle.hdl_ops.specs.Replies.{fits}
 use Rattle.hdl_ops.specs.Decisions.{Level, Anyone, Proven, Decision, Decides, DecidesBy, decision, refusal_decision, success, failure, carried_content}
@@ -46,16 +46,16 @@ codes_pass P [] end p all = p
 codes_pass P ((true, c) ∷ rows) end p all = (and_parts (P c) _ all).0
 codes_pass P ((false, c) ∷ rows) end p all = codes_pass P rows end p (and_parts (P c) _ all).1
 
-anyone_code : (s : Sight) (r : Content) → IsTrue (is_table_code (code_for_anyone s r))
+anyone_code : (s : TableView) (r : Content) → IsTrue (is_table_code (code_for_anyone s r))
 unfolding code_for_anyone
 anyone_code s r = codes_pass is_table_code _ 402 refl refl
 
-before_code : (s : Sight) (r : Content) (p : Proof) → IsTrue (is_table_code (or_code (code_before_key s r p) 0))
+before_code : (s : TableView) (r : Content) (p : Proof) → IsTrue (is_table_code (or_code (code_before_key s r p) 0))
 unfolding code_before_key
 before_code s r p = codes_pass is_table_code _ 0 refl refl
 
-key_code : (s : Sight) (r : Content) (p : Proof) (m : Option ℕ) (k : Option Value) → IsTrue (is_table_code (code_for_key s r p m k))
-unfolding code_behind_key
+key_code : (s : TableView) (r : Content) (p : Proof) (m : Option ℕ) (k : Option Value) → IsTrue (is_table_code (code_for_key s r p m k))
+unfolding code_after_key
 key_code s r p None k = refl
 key_code s r p (Some m) k = codes_pass is_table_code _ 1 refl refl
 

@@ -23,7 +23,7 @@ use Rattle.hdl_ops.specs.Decisions.{Anyone, Proven}
 use Rattle.hdl_ops.specs.First.{first, or_code}
 use Rattle.hdl_ops.specs.Proven.{Proof}
 use Rattle.hdl_ops.specs.Requests.{handle_of, resolves, is_list}
-use Rattle.hdl_ops.specs.Sights.{Sight, sight}
+use Rattle.hdl_ops.specs.Sights.{TableView, sight}
 
 pub sight_read : (t : Table) (r : Content) (old new : ℕ) → new ≤ old + cost_of_heads (sight t r) → ReadsWithin t heads_cost old new
 unfolding sight
@@ -80,7 +80,7 @@ list_needs : (b : Bool) → or_code (cond (not b) (Some 100) None) 402 ≡ 1 →
 list_needs true e = true≢false (ap (λ n. n == 402) e)
 list_needs false e = true≢false (ap (λ n. n == 100) e)
 
-granted_less : (s : Sight) (wire : Wire) (header : Header) (o : Operation) → code_for_anyone s (record { wire = wire; header = header; operation = o }) ≡ response_number Success → (m : Most) → heads_cost m + granted_cost o m ≤ decision_cost Anyone o m
+granted_less : (s : TableView) (wire : Wire) (header : Header) (o : Operation) → code_for_anyone s (record { wire = wire; header = header; operation = o }) ≡ response_number Success → (m : Most) → heads_cost m + granted_cost o m ≤ decision_cost Anyone o m
 unfolding code_for_anyone first
 granted_less s wire header (resolution handle is ts) e m = omega arith
 granted_less s wire header (create handle news) e m = omega arith
@@ -108,7 +108,7 @@ heads_less (other octets) m = omega arith
 pub anyone_seen : (t : Table) (o : Operation) (x y : ℕ) → ReadsWithin t heads_cost x y → ReadsWithin t (decision_cost Anyone o) x y
 anyone_seen t o x y seen = less_read t heads_cost (decision_cost Anyone o) x y (heads_less o) seen
 
-pub anyone_read : (t u : Table) (s : Sight) (r : Content) (code x y z : ℕ) → u ≡ t → code ≡ code_for_anyone s r → code ≡ response_number Success → ReadsWithin t heads_cost x y → ReadsWithin u (granted_cost r.operation) y z
+pub anyone_read : (t u : Table) (s : TableView) (r : Content) (code x y z : ℕ) → u ≡ t → code ≡ code_for_anyone s r → code ≡ response_number Success → ReadsWithin t heads_cost x y → ReadsWithin u (granted_cost r.operation) y z
     → ReadsWithin t (decision_cost Anyone r.operation) x z
 anyone_read t u s r code x y z same coded granted seen read =
     less_read t (λ (m : Most). heads_cost m + granted_cost r.operation m) (decision_cost Anyone r.operation) x z

@@ -33,7 +33,7 @@ use Rattle.hdl_ops.specs.Decisions.{Level, Anyone, Proven, may_read, carried_con
 use Rattle.hdl_ops.specs.Replies.{reply_to, fits}
 use Rattle.hdl_ops.specs.Requests.{sent_handle, handle_of, resolves, is_list, stored_operation}
 use Rattle.hdl_ops.specs.Seeing.{one_or_none, found_at, whole_of, cost_of_reading, IsEnough}
-use Rattle.hdl_ops.specs.Sights.{Sight, sight, bare, asks}
+use Rattle.hdl_ops.specs.Sights.{TableView, sight, bare, asks}
 use Rattle.hdl_ops.proofs.Bare.{asks_head}
 
 -- ---- lists
@@ -137,12 +137,12 @@ too_long a r wire handle vs more =
 
 -- ---- a decision depends on what its reply carries
 
-alike : (a : Algorithm) (s u : Sight) (r : Content) (level : Level) (code : ℕ) → carried_content s r level ≡ carried_content u r level → decision a s r level code ≡ decision a u r level code
+alike : (a : Algorithm) (s u : TableView) (r : Content) (level : Level) (code : ℕ) → carried_content s r level ≡ carried_content u r level → decision a s r level code ≡ decision a u r level code
 unfolding decision
 alike a s u r level code e =
     λ k. cond (code == response_number Success) (cond (fits a r (e k)) (record { code = response_number Success; content = e k; change = change_of (stored_operation r) }) (failure (response_number Error) Empty)) (failure code Empty)
 
-both_too_long : (a : Algorithm) (s u : Sight) (r : Content) (level : Level) (code : ℕ) → fits a r (carried_content s r level) ≡ false → fits a r (carried_content u r level) ≡ false → decision a s r level code ≡ decision a u r level code
+both_too_long : (a : Algorithm) (s u : TableView) (r : Content) (level : Level) (code : ℕ) → fits a r (carried_content s r level) ≡ false → fits a r (carried_content u r level) ≡ false → decision a s r level code ≡ decision a u r level code
 unfolding decision
 both_too_long a s u r level code one second =
     ap (λ b. cond (code == response_number Success) (cond b (success s r level) (failure (response_number Error) Empty)) (failure code Empty)) one
@@ -177,14 +177,14 @@ module _ (a : Algorithm) (t : Table) (wire : Wire) (header : Header) (handle is 
     each_stands : AllByRecursion (Stands t h) shown
     each_stands = kept (Stands t h) (shows r level) (values_of t h) (stand_at_their_own t h have)
 
-    all_read : (s : Sight) → s.values ≡ whole_of t h (filter (shows r level) (map head (values_of t h))) → decision a s r level (response_number Success) ≡ decision a (sight t r) r level (response_number Success)
+    all_read : (s : TableView) → s.values ≡ whole_of t h (filter (shows r level) (map head (values_of t h))) → decision a s r level (response_number Success) ≡ decision a (sight t r) r level (response_number Success)
     unfolding sight handle_of
     all_read s read =
         let values : s.values ≡ shown = read ∙ ap (whole_of t h) shown_heads ∙ whole_heads t h shown each_stands in
         let same : filter (shows r level) s.values ≡ shown = ap (filter (shows r level)) values ∙ all_pass (shows r level) shown (each_passes (shows r level) (values_of t h)) in
         alike a s (sight t r) r level (response_number Success) (ap (Values wire handle) same)
 
-    too_much : (s : Sight) (k : ℕ) → s.values ≡ whole_of t h (take k (filter (shows r level) (map head (values_of t h)))) → READ_MAX < cost_of_reading t h (take k (filter (shows r level) (map head (values_of t h))))
+    too_much : (s : TableView) (k : ℕ) → s.values ≡ whole_of t h (take k (filter (shows r level) (map head (values_of t h)))) → READ_MAX < cost_of_reading t h (take k (filter (shows r level) (map head (values_of t h))))
         → decision a s r level (response_number Success) ≡ decision a (sight t r) r level (response_number Success)
     unfolding sight handle_of
     too_much s k read more =
@@ -198,13 +198,13 @@ module _ (a : Algorithm) (t : Table) (wire : Wire) (header : Header) (handle is 
         (too_long a r wire handle (filter (shows r level) s.values) (subst (λ ws. READ_MAX < cost_of_shown ws) (sym same) some))
         (too_long a r wire handle shown (omega (arith, some, sum_by-take-le call_octets shown k)))
 
-    pub resolution_read : (s : Sight) → IsEnough t h (filter (shows r level) (map head (values_of t h))) s.values → decision a s r level (response_number Success) ≡ decision a (sight t r) r level (response_number Success)
+    pub resolution_read : (s : TableView) → IsEnough t h (filter (shows r level) (map head (values_of t h))) s.values → decision a s r level (response_number Success) ≡ decision a (sight t r) r level (response_number Success)
     resolution_read s (inl all) = all_read s all
     resolution_read s (inr some) = too_much s some.0 some.1 some.2
 
 -- ---- by operation
 
-pub granted_resolution : (a : Algorithm) (t : Table) (wire : Wire) (header : Header) (o : Operation) (level : Level) (s : Sight) → resolves o ≡ true
+pub granted_resolution : (a : Algorithm) (t : Table) (wire : Wire) (header : Header) (o : Operation) (level : Level) (s : TableView) → resolves o ≡ true
     → HaveTheirIndexes t (canonical (sent_handle o)) (values_of t (canonical (sent_handle o)))
     → IsEnough t (canonical (sent_handle o)) (filter (λ v. asks o v && may_read level v) (map head (values_of t (canonical (sent_handle o))))) s.values
     → decision a s (record { wire = wire; header = header; operation = o }) level (response_number Success) ≡ decision a (sight t (record { wire = wire; header = header; operation = o })) (record { wire = wire; header = header; operation = o }) level (response_number Success)
@@ -219,7 +219,7 @@ granted_resolution a t wire header (response kind handle index answer) level s e
 granted_resolution a t wire header (site_info octets) level s e have enough = absurd (true≢false (sym e))
 granted_resolution a t wire header (other octets) level s e have enough = absurd (true≢false (sym e))
 
-pub granted_list : (a : Algorithm) (t : Table) (wire : Wire) (header : Header) (o : Operation) (level : Level) (s : Sight) → is_list o ≡ true → s.names ≡ names_of t (prefix (sent_handle o))
+pub granted_list : (a : Algorithm) (t : Table) (wire : Wire) (header : Header) (o : Operation) (level : Level) (s : TableView) → is_list o ≡ true → s.names ≡ names_of t (prefix (sent_handle o))
     → decision a s (record { wire = wire; header = header; operation = o }) level (response_number Success) ≡ decision a (sight t (record { wire = wire; header = header; operation = o })) (record { wire = wire; header = header; operation = o }) level (response_number Success)
 unfolding sight
 granted_list a t wire header (list handle) level s e names = alike a s (sight t (record { wire = wire; header = header; operation = list handle })) (record { wire = wire; header = header; operation = list handle }) level (response_number Success) (ap Handles names)
@@ -233,7 +233,7 @@ granted_list a t wire header (response kind handle index answer) level s e names
 granted_list a t wire header (site_info octets) level s e names = absurd (true≢false (sym e))
 granted_list a t wire header (other octets) level s e names = absurd (true≢false (sym e))
 
-pub granted_write : (a : Algorithm) (t : Table) (wire : Wire) (header : Header) (o : Operation) (level : Level) (s : Sight) → resolves o ≡ false → is_list o ≡ false
+pub granted_write : (a : Algorithm) (t : Table) (wire : Wire) (header : Header) (o : Operation) (level : Level) (s : TableView) → resolves o ≡ false → is_list o ≡ false
     → decision a s (record { wire = wire; header = header; operation = o }) level (response_number Success) ≡ decision a (sight t (record { wire = wire; header = header; operation = o })) (record { wire = wire; header = header; operation = o }) level (response_number Success)
 granted_write a t wire header o level s e f = alike a s _ _ level (response_number Success) (nothing o e f)
   where
@@ -251,21 +251,21 @@ granted_write a t wire header o level s e f = alike a s _ _ level (response_numb
 
 -- ---- what is seen of a request that is granted
 
-pub see_resolution : (a : Algorithm) (t : Table) (r : Content) (level : Level) (before after : Sight) (place : List ℕ) (heads : List Value) → before ≡ bare (sight t r) → place ≡ sent_handle r.operation → resolves r.operation ≡ true
+pub see_resolution : (a : Algorithm) (t : Table) (r : Content) (level : Level) (before after : TableView) (place : List ℕ) (heads : List Value) → before ≡ bare (sight t r) → place ≡ sent_handle r.operation → resolves r.operation ≡ true
     → HaveTheirIndexes t (handle_of r) (sight t r).values → heads ≡ filter (λ v. asks r.operation v && may_read level v) before.values → IsEnough t (canonical place) heads after.values
     → decision a after r level (response_number Success) ≡ decision a (sight t r) r level (response_number Success)
 unfolding sight handle_of
 see_resolution a t r level before after place heads seen named e have kept enough =
     let all : heads ≡ filter (λ v. asks r.operation v && may_read level v) (map head (values_of t (canonical (sent_handle r.operation)))) =
-    kept ∙ ap (λ (s : Sight). filter (λ v. asks r.operation v && may_read level v) s.values) seen in
+    kept ∙ ap (λ (s : TableView). filter (λ v. asks r.operation v && may_read level v) s.values) seen in
     granted_resolution a t r.wire r.header r.operation level after e have
     (subst (λ hs. IsEnough t (canonical (sent_handle r.operation)) hs after.values) all (subst (λ p. IsEnough t (canonical p) heads after.values) named enough))
 
-pub see_list : (a : Algorithm) (t : Table) (r : Content) (level : Level) (after : Sight) → is_list r.operation ≡ true → after.names ≡ names_of t (prefix (sent_handle r.operation))
+pub see_list : (a : Algorithm) (t : Table) (r : Content) (level : Level) (after : TableView) → is_list r.operation ≡ true → after.names ≡ names_of t (prefix (sent_handle r.operation))
     → decision a after r level (response_number Success) ≡ decision a (sight t r) r level (response_number Success)
 see_list a t r level after e names = granted_list a t r.wire r.header r.operation level after e names
 
-pub see_write : (a : Algorithm) (t : Table) (r : Content) (level : Level) (after : Sight) → resolves r.operation ≡ false → is_list r.operation ≡ false
+pub see_write : (a : Algorithm) (t : Table) (r : Content) (level : Level) (after : TableView) → resolves r.operation ≡ false → is_list r.operation ≡ false
     → decision a after r level (response_number Success) ≡ decision a (sight t r) r level (response_number Success)
 see_write a t r level after e f = granted_write a t r.wire r.header r.operation level after e f
 

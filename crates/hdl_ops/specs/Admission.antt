@@ -13,7 +13,7 @@ use Rattle.hdl_msg.specs.Codes.{response_number}
 use Rattle.hdl_msg.specs.declared.codes.ResponseCode.TheVariants.{OperationDenied, InvalidHandle, ValueInvalid, ServiceReferral}
 use Rattle.hdl_msg.specs.Message.{Content, Operation, create, add, remove, modify}
 use Rattle.hdl_ops.specs.First.{first}
-use Rattle.hdl_ops.specs.Requests.{sent_handle, is_unused, makes_or_ends, is_list, stored_operation}
+use Rattle.hdl_ops.specs.Requests.{sent_handle, is_unused, creates_or_deletes, is_list, stored_operation}
 
 -- the canonical handle that octets name
 unfoldable pub handle_in : List ℕ → Option (List ℕ)
@@ -59,7 +59,7 @@ refusal hosts r = first
     ((is_unused r.operation, response_number OperationDenied)
     ∷ (is_none (handle_in (sent_handle r.operation)), response_number InvalidHandle)
     ∷ (is_list r.operation && not (is_under_root r.operation), response_number InvalidHandle)
-    ∷ (makes_or_ends r.operation && is_under_root r.operation, response_number OperationDenied)
+    ∷ (creates_or_deletes r.operation && is_under_root r.operation, response_number OperationDenied)
     ∷ (not (hosts (name.prefix (sent_handle r.operation))), response_number ServiceReferral)
     ∷ (is_bad_write (stored_operation r), response_number ValueInvalid)
     ∷ [])

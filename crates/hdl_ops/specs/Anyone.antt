@@ -10,7 +10,7 @@ use Rattle.hdl_msg.specs.declared.codes.ResponseCode.TheVariants.{Success, Handl
 use Rattle.hdl_msg.specs.Message.{Content, Operation, remove, modify}
 use Rattle.hdl_ops.specs.First.{first, or_code}
 use Rattle.hdl_ops.specs.Requests.{resolves, creates, is_public_only}
-use Rattle.hdl_ops.specs.Sights.{Sight, asks, passes_at}
+use Rattle.hdl_ops.specs.Sights.{TableView, asks, passes_at}
 
 -- what is left of a value without the hidden, with public-only also without the kept
 abbrev pub is_left : Content → Value → Bool
@@ -27,7 +27,7 @@ is_open_write (modify handle news) vs = list_all (λ n. not (is_admin n) && pass
 is_open_write _ vs = false
 
 -- where no row holds, a proof is needed
-unfoldable pub code_for_anyone : Sight → Content → ℕ
+unfoldable pub code_for_anyone : TableView → Content → ℕ
 code_for_anyone s r = or_code (first
     ((creates r.operation && s.there, response_number HandleAlreadyExists)
     ∷ (not (creates r.operation) && not s.there, response_number HandleNotFound)

@@ -8,10 +8,10 @@ use Rattle.hdl_reach.specs.Cost.{Most, value_cost, heads_cost, names_cost}
 use Rattle.hdl_cache.specs.Cost.{mask_cost}
 use Rattle.hdl_ops.specs.declared.seeing.TheConstants.{READ_MAX}
 use Rattle.hdl_ops.specs.Decisions.{Level, Anyone, Proven}
-use Rattle.hdl_ops.specs.Sights.{Sight}
+use Rattle.hdl_ops.specs.Sights.{TableView}
 
 -- one look at the heads of the handle that is named
-abbrev pub cost_of_heads : Sight → ℕ
+abbrev pub cost_of_heads : TableView → ℕ
 cost_of_heads s = CALL_OCTETS + values_octets (map head s.values)
 
 -- ---- what a decision reads at most, of a table that has no more than this

@@ -20,7 +20,7 @@ use Rattle.hdl_ops.specs.Anyone.{code_for_anyone}
 use Rattle.hdl_ops.specs.Proven.{Proof, IsCodeForProof}
 use Rattle.hdl_ops.specs.Replies.{fits}
 use Rattle.hdl_ops.specs.Requests.{sent_handle, stored_operation}
-use Rattle.hdl_ops.specs.Sights.{Sight, sight, asks}
+use Rattle.hdl_ops.specs.Sights.{TableView, sight, asks}
 
 -- at what level a request is decided
 pub data Level : Type 0 where
@@ -40,15 +40,15 @@ may_read Anyone v = is_public v
 may_read (Proven p) v = is_public v || is_kept v
 
 -- the values that are asked for and that the level may read, by rising index
-abbrev pub show : Sight → Content → Level → List Value
+abbrev pub show : TableView → Content → Level → List Value
 show s r level = filter (λ v. asks r.operation v && may_read level v) s.values
 
-abbrev pub carried_by : Operation → Sight → Content → Level → ReplyContent
+abbrev pub carried_by : Operation → TableView → Content → Level → ReplyContent
 carried_by (resolution handle indexes types) s r level = Values r.wire handle (show s r level)
 carried_by (list handle) s r level = Handles s.names
 carried_by _ s r level = Nothing
 
-abbrev pub carried_content : Sight → Content → Level → ReplyContent
+abbrev pub carried_content : TableView → Content → Level → ReplyContent
 carried_content s r level = carried_by r.operation s r level
 
 -- the write that the operation asks for
@@ -60,7 +60,7 @@ change_of (remove handle indexes) = Some (Remove handle indexes)
 change_of (modify handle values) = Some (Modify handle values)
 change_of _ = None
 
-abbrev pub success : Sight → Content → Level → Decision
+abbrev pub success : TableView → Content → Level → Decision
 success s r level = record { code = response_number Success; content = carried_content s r level; change = change_of (stored_operation r) }
 
 -- ---- the decision
@@ -69,7 +69,7 @@ abbrev pub failure : ℕ → ReplyContent → Decision
 failure code content = record { code = code; content = content; change = None }
 
 -- by the code of the table of decision; where Success would need too long a message, the code is Error
-unfoldable pub decision : Algorithm → Sight → Content → Level → ℕ → Decision
+unfoldable pub decision : Algorithm → TableView → Content → Level → ℕ → Decision
 decision a s r level code =
     if code == response_number Success then (if fits a r (carried_content s r level) then success s r level else failure (response_number Error) Empty)
     else failure code Empty

@@ -22,7 +22,7 @@ use Rattle.hdl_msg.specs.Message.{Content, Operation, resolution, create, delete
 use Rattle.hdl_ops.specs.First.{first, or_code}
 use Rattle.hdl_ops.specs.Admission.{handle_in}
 use Rattle.hdl_ops.specs.Requests.{Response, sent_handle, resolves, creates}
-use Rattle.hdl_ops.specs.Sights.{Sight, sight, asks, passes, passes_at}
+use Rattle.hdl_ops.specs.Sights.{TableView, sight, asks, passes, passes_at}
 
 -- a challenge response, with the challenge's nonce and the challenged request's digest
 pub record Proof : Type 0 where
@@ -32,7 +32,7 @@ pub record Proof : Type 0 where
 
 -- ---- before administrators are looked for
 
-unfoldable pub code_before_key : Sight → Content → Proof → Option ℕ
+unfoldable pub code_before_key : TableView → Content → Proof → Option ℕ
 code_before_key s r p = first
     ((not (bytes_eq p.response.kind secret_key_kind), response_number UnableToAuthenticate)
     ∷ (not (has_response_form (algorithm_of p.digest) p.response.answer), response_number InvalidCredential)
@@ -128,8 +128,8 @@ abbrev pub is_asked : Content → Value → Bool
 is_asked r v = asks r.operation v && (is_public v || is_kept v)
 
 -- with this mask, and this value at the key's place
-unfoldable pub code_behind_key : Sight → Content → Proof → ℕ → Option Value → ℕ
-code_behind_key s r p mask key = or_code (first
+unfoldable pub code_after_key : TableView → Content → Proof → ℕ → Option Value → ℕ
+code_after_key s r p mask key = or_code (first
     ((not (passes is_secret_key key), response_number UnableToAuthenticate)
     ∷ (not (is_right key p), response_number AuthenticationFailed)
     ∷ (misses r.operation s.values, response_number ValueNotFound)
@@ -140,11 +140,11 @@ code_behind_key s r p mask key = or_code (first
     ∷ [])) (response_number Success)
 
 -- the key's value is looked at only behind a mask
-abbrev pub code_for_key : Sight → Content → Proof → Option ℕ → Option Value → ℕ
+abbrev pub code_for_key : TableView → Content → Proof → Option ℕ → Option Value → ℕ
 code_for_key s r p None key = response_number NotAuthorized
-code_for_key s r p (Some mask) key = code_behind_key s r p mask key
+code_for_key s r p (Some mask) key = code_after_key s r p mask key
 
-abbrev pub IsCodeForKey : Table → Sight → Content → Proof → ℕ → Type 0
+abbrev pub IsCodeForKey : Table → TableView → Content → Proof → ℕ → Type 0
 IsCodeForKey t s r p code = (m : Option ℕ) × MaskOf t (target r.operation) (key_of p) m × (code ≡ code_for_key s r p m (value_at t (key_of p)))
 
 -- the mask is asked for only where nothing was refused before

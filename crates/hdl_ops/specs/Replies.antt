@@ -15,7 +15,7 @@ use Rattle.hdl_msg.specs.declared.replies.ReplyContent.{ReplyContent}
 use Rattle.hdl_msg.specs.declared.replies.ReplyContent.TheVariants.{Nonce}
 use Rattle.hdl_limits.specs.declared.TheConstants.{MESSAGE_MAX}
 use Rattle.hdl_msg.specs.Reply.{answer_header, reply_message}
-use Rattle.hdl_ops.specs.declared.rendering.TheConstants.{REPLY_LIFE}
+use Rattle.hdl_ops.specs.declared.rendering.TheConstants.{REPLY_LIFE_MILLIS}
 use Rattle.hdl_ops.specs.Requests.{wants_digest}
 
 -- the digest of a request by its algorithm: that of its header and body
@@ -28,7 +28,7 @@ asked_digest a r = if wants_digest r then Some (digest_of a r) else None
 -- The ExpirationTime of a reply of this moment. By the layout of Handle.Net software it is the second at which the reply's life ends; by our profile it is 0.
 abbrev pub expiration : Wire → ℕ → ℕ
 expiration Profile moment = 0
-expiration HandleNet moment = second_of (moment + REPLY_LIFE)
+expiration HandleNet moment = second_of (moment + REPLY_LIFE_MILLIS)
 
 -- the header of a reply of this moment to the request
 abbrev pub reply_header : ℕ → Content → ℕ → Header

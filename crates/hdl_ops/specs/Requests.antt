@@ -42,10 +42,10 @@ creates (create handle values) = true
 creates _ = false
 
 -- it makes a handle or takes one away
-abbrev pub makes_or_ends : Operation → Bool
-makes_or_ends (create handle values) = true
-makes_or_ends (delete handle) = true
-makes_or_ends _ = false
+abbrev pub creates_or_deletes : Operation → Bool
+creates_or_deletes (create handle values) = true
+creates_or_deletes (delete handle) = true
+creates_or_deletes _ = false
 
 -- it asks for the handles of a naming authority
 abbrev pub is_list : Operation → Bool

@@ -8,12 +8,12 @@ use Rattle.hdl_rows.specs.Table.{Table, has, values_of, names_of, value_with}
 use Rattle.hdl_msg.specs.Message.{Content, Operation, resolution}
 use Rattle.hdl_ops.specs.Requests.{sent_handle, handle_of, is_list}
 
-pub record Sight : Type 0 where
+pub record TableView : Type 0 where
   pub there : Bool  -- the handle is there
   pub values : List Value  -- its values, by rising index
   pub names : List (List ℕ)  -- for a list, the handles of the naming authority, rising by octets
 
-unfoldable pub sight : Table → Content → Sight
+unfoldable pub sight : Table → Content → TableView
 sight t r = record {
   there = has t (handle_of r);
   values = values_of t (handle_of r);
@@ -21,7 +21,7 @@ sight t r = record {
 }
 
 -- what is seen before a code is known: the heads of the handle's values, and none of a naming authority's handles
-abbrev pub bare : Sight → Sight
+abbrev pub bare : TableView → TableView
 bare s = record s { values = map head s.values; names = [] }
 
 -- the value is there and passes the test

@@ -11,7 +11,7 @@ use Rattle.hdl_ops.specs.declared.decision.Decision.{Decision}
 use Rattle.hdl_ops.specs.declared.decision.Level.{Level}
 use Rattle.hdl_ops.specs.declared.decision.Level.TheVariants as level
 use Rattle.hdl_ops.specs.declared.decision.Proof.{Proof}
-use Rattle.hdl_ops.specs.declared.decision.Sight.{Sight}
+use Rattle.hdl_ops.specs.declared.decision.TableView.{TableView}
 use Rattle.hdl_ops.specs.declared.owner.Owner.{Owner}
 use Rattle.hdl_ops.specs.Admission.{refusal}
 use Rattle.hdl_ops.specs.Decisions as d
@@ -41,7 +41,7 @@ algorithms_by o = algorithm o.tenants.now o.publisher
 abbrev pub decision_of : Decision → d.Decision
 decision_of x = record { code = response_number x.code; content = x.content; change = x.change }
 
-abbrev pub sight_of : Sight → sights.Sight
+abbrev pub sight_of : TableView → sights.TableView
 sight_of s = record { there = s.there; values = s.values.items; names = s.names.items }
 
 abbrev pub response_view : Response → requests.Response

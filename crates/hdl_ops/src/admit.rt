@@ -10,7 +10,7 @@ ghost use Rattle.hdl_ops.specs.Views.{algorithms_by, hosted_by, IsAdmitted};
 
 use crate::decision::{Decision, HashedRequest};
 use crate::owner::Owner;
-use crate::requests::{is_list, is_unused, makes_or_ends, sent_handle};
+use crate::requests::{creates_or_deletes, is_list, is_unused, sent_handle};
 use crate::written::is_bad_write;
 use hdl_auth::algorithm::Algorithm;
 use hdl_limits::{NAME_MAX, Octets};
@@ -143,7 +143,7 @@ pub(crate) fn admit(request: NamedRequest<'_>) -> Result<Admitted, Refused>
     if is_list(body) && !name.is_admin_handle() {
         return Ok(refusal_with(ResponseCode::InvalidHandle, ReplyContent::Empty));
     }
-    if makes_or_ends(body) && name.is_admin_handle() {
+    if creates_or_deletes(body) && name.is_admin_handle() {
         return Ok(refusal_with(ResponseCode::OperationDenied, ReplyContent::Empty));
     }
     if !is_hosted {

@@ -10,7 +10,7 @@ ghost use Rattle.hdl_ops.specs.Anyone.{is_left, is_open, is_open_write, code_for
 ghost use Rattle.hdl_ops.specs.Sights.{passes_at};
 ghost use Rattle.hdl_ops.specs.Views.{sight_of};
 
-use crate::decision::Sight;
+use crate::decision::TableView;
 use crate::requests::{creates, is_public_only, resolves};
 use crate::sights::{asks, is_kept, is_public};
 use hdl_msg::{Body, Numbers, Request, ResponseCode, Values};
@@ -80,7 +80,7 @@ fn is_open_write(body: &Body<'_>, values: &[Value]) -> bool
 
 /// The code of the table of decision for anyone.
 #[tactic(auto, unfolding(crate::specs::Anyone::code_for_anyone, crate::specs::First::first))]
-pub(crate) fn code_for_anyone(request: &Request<'_>, sight: &Sight) -> ResponseCode
+pub(crate) fn code_for_anyone(request: &Request<'_>, sight: &TableView) -> ResponseCode
     ensures { response_number result ≡ code_for_anyone (sight_of sight.now) request.now }
 {
     let body = request.body();

@@ -17,7 +17,7 @@ pub struct HashedRequest<'a> {
 /// What a decision sees of the table: whether the handle is there, its values by rising index, and for a list the handles of
 /// the naming authority.
 #[derive(Drop)]
-pub(crate) struct Sight {
+pub(crate) struct TableView {
     pub there: bool,
     pub values: Vec<Value>,
     pub names: Vec<Octets>,

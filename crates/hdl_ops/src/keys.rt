@@ -17,8 +17,8 @@ ghost use Rattle.hdl_ops.specs.Sights as sights;
 ghost use Rattle.hdl_ops.specs.Views.{sight_of, proof_of};
 
 use crate::admit::read_name;
-use crate::decision::{Proof, Sight};
-use crate::proven::{code_before_key, code_behind_key};
+use crate::decision::{Proof, TableView};
+use crate::proven::{code_after_key, code_before_key};
 use crate::requests::creates;
 use hdl_cache::Masked;
 use hdl_msg::{Body, Request, ResponseCode};
@@ -86,7 +86,7 @@ fn code_for_key<R: Masked>(
     alloc: Global,
     rows: &mut R,
     request: &Request<'_>,
-    sight: &Sight,
+    sight: &TableView,
     name: &Name,
     proof: &Proof<'_>,
 ) -> Result<ResponseCode, Refused>
@@ -103,7 +103,7 @@ fn code_for_key<R: Masked>(
         return Ok(ResponseCode::NotAuthorized);
     };
     let value = rows.at(&key)?;
-    Ok(code_behind_key(request, sight, proof, mask, &value))
+    Ok(code_after_key(request, sight, proof, mask, &value))
 }
 
 /// The code of the table of decision for a request with a proof.
@@ -111,7 +111,7 @@ pub(crate) fn code_for_proof<R: Masked>(
     alloc: Global,
     rows: &mut R,
     request: &Request<'_>,
-    sight: &Sight,
+    sight: &TableView,
     name: &Name,
     proof: &Proof<'_>,
 ) -> Result<ResponseCode, Refused>

@@ -5,11 +5,11 @@ ghost use Rattle.std.specs.List.{list_any};
 ghost use Rattle.hdl_value.specs.Refs.{is_secret_key};
 ghost use Rattle.hdl_msg.specs.Views.{operation_of, numbers_of, values_of};
 ghost use Rattle.hdl_msg.specs.Codes.{response_number};
-ghost use Rattle.hdl_ops.specs.Proven.{is_right, misses_at, takes_at, misses, takes, overfills, is_asked, code_before_key, code_behind_key};
+ghost use Rattle.hdl_ops.specs.Proven.{is_right, misses_at, takes_at, misses, takes, overfills, is_asked, code_before_key, code_after_key};
 ghost use Rattle.hdl_ops.specs.Sights.{passes};
 ghost use Rattle.hdl_ops.specs.Views.{sight_of, proof_of};
 
-use crate::decision::{Proof, Sight};
+use crate::decision::{Proof, TableView};
 use crate::permitted::{is_allowed, is_locked};
 use crate::requests::{creates, resolves};
 use crate::sights::{asks, is_kept, is_public};
@@ -121,7 +121,7 @@ fn any_asked(request: &Request<'_>, values: &[Value]) -> bool
 #[tactic(auto, unfolding(crate::specs::Proven::code_before_key, crate::specs::First::first))]
 pub(crate) fn code_before_key(
     request: &Request<'_>,
-    sight: &Sight,
+    sight: &TableView,
     proof: &Proof<'_>,
 ) -> Option<ResponseCode>
     ensures { option_map response_number result ≡ code_before_key (sight_of sight.now) request.now (proof_of proof.now) }
@@ -143,15 +143,15 @@ pub(crate) fn code_before_key(
 }
 
 /// The tests for an administrator with this mask, and with this value at the key's place.
-#[tactic(auto, unfolding(crate::specs::Proven::code_behind_key, crate::specs::First::first))]
-pub(crate) fn code_behind_key(
+#[tactic(auto, unfolding(crate::specs::Proven::code_after_key, crate::specs::First::first))]
+pub(crate) fn code_after_key(
     request: &Request<'_>,
-    sight: &Sight,
+    sight: &TableView,
     proof: &Proof<'_>,
     mask: AdminMask,
     key: &Option<Value>,
 ) -> ResponseCode
-    ensures { response_number result ≡ code_behind_key (sight_of sight.now) request.now (proof_of proof.now) mask.0 key.now }
+    ensures { response_number result ≡ code_after_key (sight_of sight.now) request.now (proof_of proof.now) mask.0 key.now }
 {
     let body = request.body();
     let values = &sight.values;

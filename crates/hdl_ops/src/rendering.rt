@@ -18,7 +18,7 @@ use hdl_value::Wire;
 use std::alloc::{AllocError, Global};
 
 /// How long a reply to Handle.Net software may be kept, in milliseconds: twelve hours.
-pub const REPLY_LIFE: u64 = 43_200_000;
+pub const REPLY_LIFE_MILLIS: u64 = 43_200_000;
 
 /// The ExpirationTime of a reply of this moment, in seconds. By the layout of Handle.Net software the reply's life ends then;
 /// by our profile it is 0.
@@ -27,7 +27,7 @@ fn expiration(wire: Wire, moment: u64) -> u32
 {
     match wire {
         Wire::Profile => 0,
-        Wire::HandleNet => match u32::try_from(moment / 1000 + REPLY_LIFE / 1000) {
+        Wire::HandleNet => match u32::try_from(moment / 1000 + REPLY_LIFE_MILLIS / 1000) {
             Ok(second) => second,
             Err(_) => u32::MAX,
         },

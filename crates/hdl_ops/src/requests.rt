@@ -2,7 +2,7 @@
 
 ghost use Rattle.std.specs.Prelude.{◌≡◌, option_map};
 ghost use Rattle.hdl_msg.specs.Views.{operation_of};
-ghost use Rattle.hdl_ops.specs.Requests.{response_of, sent_handle, is_unused, resolves, creates, makes_or_ends, is_list, is_public_only, wants_digest};
+ghost use Rattle.hdl_ops.specs.Requests.{response_of, sent_handle, is_unused, resolves, creates, creates_or_deletes, is_list, is_public_only, wants_digest};
 ghost use Rattle.hdl_ops.specs.Views.{response_view};
 
 use hdl_msg::{Body, OpFlag, Request};
@@ -90,8 +90,8 @@ pub(crate) fn creates(body: &Body<'_>) -> bool
 }
 
 /// Whether the body asks for a new handle, or that one is taken away.
-pub(crate) fn makes_or_ends(body: &Body<'_>) -> bool
-    ensures { result ≡ makes_or_ends (operation_of body.now) }
+pub(crate) fn creates_or_deletes(body: &Body<'_>) -> bool
+    ensures { result ≡ creates_or_deletes (operation_of body.now) }
 {
     matches!(body, Body::Create { .. } | Body::Delete { .. })
 }

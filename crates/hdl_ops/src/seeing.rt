@@ -14,7 +14,7 @@ ghost use Rattle.hdl_ops.specs.Seeing.{one_or_none, IsEnough};
 ghost use Rattle.hdl_ops.specs.Sights.{sight, bare};
 ghost use Rattle.hdl_ops.specs.Views.{level_of, sight_of};
 
-use crate::decision::{Level, Sight};
+use crate::decision::{Level, TableView};
 use crate::requests::{is_list, resolves};
 use crate::whole_decision::readable_values;
 use hdl_limits::MESSAGE_MAX;
@@ -43,7 +43,7 @@ pub(crate) fn look<R: Rows>(
     rows: &mut R,
     request: &Request<'_>,
     name: &Name,
-) -> Result<Sight, Refused>
+) -> Result<TableView, Refused>
     requires named { name.now ≡ sent_handle request.now.operation }
     ensures unchanged { R.content rows.new ≡ R.content rows.old }
     ensures sight { IfOk result (λ s. sight_of s ≡ bare (sight (R.content rows.old) request.now)) }
@@ -54,12 +54,12 @@ pub(crate) fn look<R: Rows>(
     let found = rows.heads(name)?;
     let names = Vec::new(alloc);
     Ok(match found {
-        Some(values) => Sight {
+        Some(values) => TableView {
             there: true,
             values,
             names,
         },
-        None => Sight {
+        None => TableView {
             there: false,
             values: Vec::new(alloc),
             names,
@@ -112,8 +112,8 @@ pub(crate) fn see<R: Rows>(
     request: &Request<'_>,
     level: &Level<'_>,
     place: &mut Reference,
-    mut seen: Sight,
-) -> Result<Sight, Refused>
+    mut seen: TableView,
+) -> Result<TableView, Refused>
     requires named { place.old.name ≡ sent_handle request.now.operation }
     requires seen { sight_of seen ≡ bare (sight (R.content rows.old) request.now) }
     requires by_index { HaveTheirIndexes (R.content rows.old) (handle_of request.now) (sight (R.content rows.old) request.now).values }
@@ -126,7 +126,7 @@ pub(crate) fn see<R: Rows>(
     if resolves(request.body()) {
         let heads = readable_values(request.body(), level, seen.values);
         let values = whole_values(alloc, rows, place, &heads)?;
-        return Ok(Sight {
+        return Ok(TableView {
             there: seen.there,
             values,
             names: seen.names,

@@ -12,7 +12,7 @@ ghost use Rattle.hdl_ops.specs.Sights.{asks};
 ghost use Rattle.hdl_ops.specs.Views.{decision_of, level_of, sight_of};
 
 use crate::change::Change;
-use crate::decision::{Decision, HashedRequest, Level, Sight};
+use crate::decision::{Decision, HashedRequest, Level, TableView};
 use crate::rendering::fitting;
 use crate::sights::{asks, is_kept, is_public};
 use crate::written::{copied_indexes, stored_values};
@@ -47,7 +47,7 @@ pub(crate) fn readable_values(
 fn carried_content(
     request: &Request<'_>,
     level: &Level<'_>,
-    sight: Sight,
+    sight: TableView,
     name: Name,
 ) -> (ReplyContent, Option<Name>)
     requires named { name ≡ sent_handle request.now.operation }
@@ -165,7 +165,7 @@ pub(crate) fn whole_decision(
     alloc: Global,
     asked: &HashedRequest<'_>,
     level: &Level<'_>,
-    sight: Sight,
+    sight: TableView,
     code: ResponseCode,
     name: Name,
 ) -> Result<Decision, Refused>

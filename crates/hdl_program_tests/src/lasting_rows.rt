@@ -3,7 +3,7 @@
 use crate::assertion::same;
 use crate::rows::{are, list_handles};
 use crate::writes::{add, create, delete, modify, reference, remove};
-use hdl_lastingrows::{Alarm, FileRows, LastingRows, TableFault, table_over};
+use hdl_durablerows::{DurableRows, FileRows, ShutObserver, TableFault, table_with_file};
 use hdl_name::Name;
 use hdl_rows::{Fuse, Owed, Owing, PlainRows, Rows};
 use hdl_sqlrows::load::Progress;
@@ -16,26 +16,26 @@ use std::test::Fail;
 
 /// Hears nothing.
 #[derive(Clone, Copy, Drop)]
-pub(crate) struct Deaf;
+pub(crate) struct NoObserver;
 
-impl Alarm for Deaf {
+impl ShutObserver for NoObserver {
     ghost use Rattle.hdl_rows.specs.Table.{most};
 
-    ghost rings = { λ _. most };
+    ghost shut_notices = { λ _. most };
 
-    fn ring(&mut self) {}
+    fn note_shut(&mut self) {}
 }
 
-impl Progress for Deaf {
+impl Progress for NoObserver {
     fn handles(&mut self, _count: u64) {}
 
     fn values(&mut self, _count: u64) {}
 }
 
-type Table = LastingRows<PlainRows, FileRows<MemStore>, Deaf>;
+type Table = DurableRows<PlainRows, FileRows<MemStore>, NoObserver>;
 
 /// A table of which memory refuses calls.
-type Refusing = LastingRows<Fuse<PlainRows>, FileRows<MemStore>, Deaf>;
+type Refusing = DurableRows<Fuse<PlainRows>, FileRows<MemStore>, NoObserver>;
 
 /// The table over a database, with one first value of the text.
 fn over(
@@ -49,7 +49,7 @@ fn over(
     }
     let rows = PlainRows::new(alloc);
     let spare = PlainRows::new(alloc);
-    Ok(table_over(alloc, conn, rows, spare, &[(name, first)], Deaf)?)
+    Ok(table_with_file(alloc, conn, rows, spare, &[(name, first)], NoObserver)?)
 }
 
 /// The same, with the value of index 1 at `10.abc/text`.
@@ -159,7 +159,7 @@ fn over_refusing(alloc: Global, conn: Connection<MemStore>, nth: u64) -> Result<
     }
     let rows = Fuse::new(PlainRows::new(alloc), nth, nth);
     let spare = Fuse::new(PlainRows::new(alloc), 0, 0);
-    Ok(table_over(alloc, conn, rows, spare, &[], Deaf)?)
+    Ok(table_with_file(alloc, conn, rows, spare, &[], NoObserver)?)
 }
 
 /// Whether an absent handle is made.

@@ -6,8 +6,8 @@ use crate::assertion::same;
 use hdl_core::{Service, Tenants};
 use hdl_rows::PlainRows;
 use hdl_serve::{
-    Clock, Door, DoorFault, LaneEnds, MemoryDoor, MemoryNonces, WorkerSide, WriteQueue, lanes_of,
-    serve, stream_worker,
+    Door, DoorFault, LaneEnds, LoopClock, MemoryDoor, MemoryNonces, WorkerSide, WriteQueue,
+    lanes_of, serve, stream_worker,
 };
 use std::alloc::{AllocError, Global};
 use std::collections::VecDeque;
@@ -102,7 +102,7 @@ struct Sleeping<R> {
     left: Count,
 }
 
-impl<R: std::rt::Clock> Clock for Sleeping<R> {
+impl<R: std::rt::Clock> LoopClock for Sleeping<R> {
     ghost use Rattle.std.specs.Prelude.{false, []};
 
     ghost is_observed = { false };

@@ -1,7 +1,7 @@
 //! Whose write comes next: the lanes that wait, in their order.
 
 use crate::assertion::same;
-use hdl_queue::WriteQueue;
+use hdl_write_queue::WriteQueue;
 use std::test::Fail;
 
 /// Two lanes whose clients write: the one that began is asked again once its write has ended, and the other one behind it.

@@ -1,7 +1,7 @@
 //! What `handled`, `hdl` and `hdl proxy` share as programs: the words of a command line, the exit status after faulty ones, the version, the
 //! octets of standard input and output, and the fault with which a run ends.
 //!
-//! A program that has words on its command line reads them with `clap`. Where these leave nothing to do, [`status_of_words`] says
+//! A program that has words on its command line reads them with `clap`. Where these leave nothing to do, [`usage_status`] says
 //! with which status it ends (docs/PROTOCOL.md, "The tenants text and scripts"). [`read_input`] reads the whole input, within its limit, and [`tenants_of`]
 //! the tenants text in it; [`put_all`] writes all of an output. Each answers a [`Fault`], which prints as the fault line and knows the exit status.
 //!
@@ -16,17 +16,17 @@
 //! ```
 #![tactic(auto)]
 
+mod arguments;
 mod fault;
 mod input;
 mod output;
 mod tenants;
-mod words;
 
+pub use arguments::{arguments_of, usage_status};
 pub use fault::Fault;
 pub use input::{INPUT_LIMIT, read_input};
 pub use output::put_all;
 pub use tenants::tenants_of;
-pub use words::{status_of_words, words_of};
 
 /// The version of the product, and the kit that it is proved with.
 pub const VERSION: &str = "0.1.0 (Buckramjade; rattle-kit-13f logic dac8208d650f15bf)";

@@ -17,8 +17,8 @@ use Rattle.hdl_proxy.specs.declared.locations.Location.{Location}
 use Rattle.hdl_proxy.specs.declared.note.Note.{Note}
 use Rattle.std.specs.Borrow.{Bor}
 use Rattle.hdl_proxy.specs.declared.found.Found.TheVariants.{Values, Refused, Nothing}
-use Rattle.hdl_proxy.specs.declared.question.Form.{Form}
-use Rattle.hdl_proxy.specs.declared.question.Form.TheVariants.{Follow, Page, Json, Pretty}
+use Rattle.hdl_proxy.specs.declared.question.AnswerFormat.{AnswerFormat}
+use Rattle.hdl_proxy.specs.declared.question.AnswerFormat.TheVariants.{Follow, Page, Json, Pretty}
 use Rattle.hdl_proxy.proofs.Addresses.{api_graphic, graphic, location_covers, path_covers, slash_graphic, word_graphic}
 
 -- ---- links are graphic ASCII
@@ -106,13 +106,13 @@ unless_located : (gone : Option Value) (handle append locatt : List ℕ) (values
 unless_located None handle append locatt values a h = follows_located handle append locatt values a h
 unless_located (Some gone) handle append locatt values a h = tells_located status.Gone _ a (λ e. cc) h.told
 
-values_located : (form : Form) (handle append locatt : List ℕ) (values : List Value) (a : Answer) → ShowsValues form handle append locatt values a → IsLocated a
+values_located : (form : AnswerFormat) (handle append locatt : List ℕ) (values : List Value) (a : Answer) → ShowsValues form handle append locatt values a → IsLocated a
 values_located Follow handle append locatt values a h = unless_located h.0 handle append locatt values a h.1.1
 values_located Page handle append locatt values a h = tells_located status.Success _ a (λ e. cc) h.told
 values_located Json handle append locatt values a h = tells_located status.Success _ a (λ e. cc) h.told
 values_located Pretty handle append locatt values a h = tells_located status.Success _ a (λ e. cc) h.told
 
-pub found_located : (form : Form) (handle append locatt : List ℕ) (found : Found) (a : Answer) → ShowsFound form handle append locatt found a → IsLocated a
+pub found_located : (form : AnswerFormat) (handle append locatt : List ℕ) (found : Found) (a : Answer) → ShowsFound form handle append locatt found a → IsLocated a
 found_located form handle append locatt (Values values) a h = values_located form handle append locatt values.items a h
 found_located form handle append locatt (Refused code) a h = tells_located (status_of_code code) _ a (no_code_follows code) h.told
 found_located form handle append locatt Nothing a h = tells_located status.BadGateway _ a (λ e. cc) h.told

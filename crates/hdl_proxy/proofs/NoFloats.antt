@@ -14,8 +14,8 @@ use Rattle.serde_json.specs.Written.{has_float, items_have_float, members_have_f
 use Rattle.hdl_value.specs.declared.references.RawRef.{RawRef}
 use Rattle.hdl_value.specs.declared.value.Value.{Value}
 use Rattle.hdl_value.specs.Refs.{admin_read, list_read}
-use Rattle.hdl_proxy.specs.declared.words.KeptFor.{KeptFor}
-use Rattle.hdl_proxy.specs.declared.words.KeptFor.TheVariants.{Seconds, Until}
+use Rattle.hdl_proxy.specs.declared.words.CacheLifetime.{CacheLifetime}
+use Rattle.hdl_proxy.specs.declared.words.CacheLifetime.TheVariants.{Seconds, Until}
 use Rattle.hdl_proxy.specs.Words.{text_of, permission_digits, value_digits, usual_permissions}
 use Rattle.hdl_proxy.specs.Json.{put_text, with_format, reference_members, reference_json, admin_json, list_json, is_text, base64_json, text_json, octets_json, data_json, kept_json, put_written, written_json, put_permissions, value_json, answer_json, refusal_json, IsValueJson}
 
@@ -80,7 +80,7 @@ data_none : (v : Value) → has_float (data_json v) ≡ false
 unfolding data_json
 data_none v = data_none_of (admin_read v) (list_read v) (octets_json v.kind v.bytes) (octets_none v.kind v.bytes)
 
-kept_none : (kept : KeptFor) → has_float (kept_json kept) ≡ false
+kept_none : (kept : CacheLifetime) → has_float (kept_json kept) ≡ false
 kept_none (Seconds n) = refl
 kept_none (Until words) = refl
 
@@ -99,7 +99,7 @@ permissions_none v ms h =
     cond_both (v.permissions == usual_permissions v.kind) ms (put (codes "permissions") digits ms) (λ m. members_have_float m ≡ false)
     (λ _. h) (λ _. put_none (codes "permissions") digits ms refl h)
 
-value_none : (v : Value) (kept : KeptFor) (written : Option (List ℕ)) → has_float (value_json v kept written) ≡ false
+value_none : (v : Value) (kept : CacheLifetime) (written : Option (List ℕ)) → has_float (value_json v kept written) ≡ false
 unfolding value_json
 value_none v kept written =
     let index = put (codes "index") (number (unsigned v.index)) no_members in

@@ -4,7 +4,7 @@ use Rattle.std.proofs.lemmas.Bool.{ltb-false, ltb-true}
 use Rattle.std.proofs.lemmas.List.{take_more}
 use Rattle.std.proofs.lemmas.List.Elements.{All-push, All-nil, Contains-push, Contains-append_left}
 use Rattle.hdl_value.specs.declared.value.Value.{Value}
-use Rattle.hdl_proxy.specs.Keeping.{IsSoonest, comes_sooner, fresh_for}
+use Rattle.hdl_proxy.specs.CacheControl.{IsSoonest, comes_sooner, fresh_for}
 
 abbrev NoSooner : Value → List Value → Type 0
 NoSooner first values = All (λ v. fresh_for first ≤ fresh_for v) values

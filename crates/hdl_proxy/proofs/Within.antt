@@ -3,9 +3,9 @@ use Rattle.std.proofs.Common.{ℕ, List, Option, Some, None, inl, inr}
 use Rattle.hdl_proxy.specs.Answer.{IsLocated}
 use Rattle.hdl_proxy.specs.Step.{IsNamed, IsWithin}
 use Rattle.hdl_proxy.specs.declared.answer.Answer.{Answer}
-use Rattle.hdl_proxy.specs.declared.answer.Keeping.{Keeping}
+use Rattle.hdl_proxy.specs.declared.answer.CacheControl.{CacheControl}
 
-pub within_located : (most : Keeping) (before after : Answer) → IsLocated before → IsWithin most before after → IsLocated after
+pub within_located : (most : CacheControl) (before after : Answer) → IsLocated before → IsWithin most before after → IsLocated after
 within_located most before after h w = rw (w.location, w.status) h
 
 pub named_located : (asked : Option (List ℕ)) (before after : Answer) → IsLocated before → IsNamed asked before after → IsLocated after

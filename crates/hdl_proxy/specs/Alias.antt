@@ -5,7 +5,7 @@ use Rattle.std.specs.Str.{bytes_eq}
 use Rattle.hdl_name.specs.Name.{IsHandle, canonical}
 use Rattle.hdl_value.specs.declared.value.Value.{Value}
 use Rattle.hdl_proxy.specs.Choice.{IsFirstOf}
-use Rattle.hdl_proxy.specs.Keeping.{IsKeepingOf}
+use Rattle.hdl_proxy.specs.CacheControl.{IsCacheControlOf}
 use Rattle.hdl_proxy.specs.Words.{text_of}
 use Rattle.hdl_proxy.specs.declared.alias.Hop.{Hop}
 use Rattle.hdl_proxy.specs.declared.found.Found.{Found}
@@ -34,7 +34,7 @@ IsAliasOf values target = (gone : Option Value) × (IsFirstOf (codes "HS_GONE") 
 -- the alias that is followed, where aliases are, and how long others may keep the values that it stands among
 abbrev pub IsHopOf : List Value → Option Hop → Type 0
 IsHopOf values None = IsAliasOf values None
-IsHopOf values (Some hop) = IsAliasOf values (Some hop.target) × IsKeepingOf values hop.keeping
+IsHopOf values (Some hop) = IsAliasOf values (Some hop.target) × IsCacheControlOf values hop.cache_control
 
 abbrev pub IsHopIf : Bool → List Value → Option Hop → Type 0
 IsHopIf true values hop = IsHopOf values hop

@@ -6,14 +6,14 @@ use Rattle.serde_json.specs.Written.{compact_text}
 use Rattle.hdl_proxy.specs.Choice.{IsFirstOf, IsFirstUrl}
 use Rattle.hdl_proxy.specs.Found.{IsFoundOf}
 use Rattle.hdl_proxy.specs.Json.{refusal_json, IsJsonOf, IsPrettyOf}
-use Rattle.hdl_proxy.specs.Keeping.{IsKeepingOf}
+use Rattle.hdl_proxy.specs.CacheControl.{IsCacheControlOf}
 use Rattle.hdl_proxy.specs.Link.{IsWayTo, name_in_address}
 use Rattle.hdl_proxy.specs.Locations.{IsChoice, SaysLocations}
 use Rattle.hdl_proxy.specs.Pages.{refusal_page, refusal_title, redirect_page, IsGonePage, IsPageOf}
-use Rattle.hdl_proxy.specs.Status.{status_of_code, told_code, refused_words}
+use Rattle.hdl_proxy.specs.Status.{status_of_code, reported_code, refused_words}
 use Rattle.hdl_proxy.specs.Url.{IsGraphic, extend}
 use Rattle.hdl_proxy.specs.declared.answer.Answer.{Answer}
-use Rattle.hdl_proxy.specs.declared.answer.Keeping.TheVariants.{Never}
+use Rattle.hdl_proxy.specs.declared.answer.CacheControl.TheVariants.{Never}
 use Rattle.hdl_proxy.specs.declared.answer.Media.{Media}
 use Rattle.hdl_proxy.specs.declared.answer.Media.TheVariants as media
 use Rattle.hdl_proxy.specs.declared.answer.Status.{Status}
@@ -23,15 +23,15 @@ use Rattle.hdl_proxy.specs.declared.found.Found.TheVariants.{Values, Refused, No
 use Rattle.hdl_proxy.specs.declared.locations.Location.{Location}
 use Rattle.hdl_proxy.specs.declared.note.Note.{Note}
 use Rattle.hdl_proxy.specs.declared.note.Note.TheVariants as note
-use Rattle.hdl_proxy.specs.declared.question.Form.{Form}
-use Rattle.hdl_proxy.specs.declared.question.Form.TheVariants.{Follow, Page, Json, Pretty}
+use Rattle.hdl_proxy.specs.declared.question.AnswerFormat.{AnswerFormat}
+use Rattle.hdl_proxy.specs.declared.question.AnswerFormat.TheVariants.{Follow, Page, Json, Pretty}
 use Rattle.hdl_proxy.specs.declared.question.Question.{Question}
 use Rattle.hdl_proxy.specs.declared.resolver.NoAnswer.{NoAnswer}
 
 -- It leads there: a page under this title, with a link there, status Found and this Location.
 pub record LeadsTo (title to : List ℕ) (answer : Answer) : Type 0 where
   pub status : answer.status ≡ status.Found
-  pub media : answer.media ≡ media.Way
+  pub media : answer.media ≡ media.Redirect
   pub location : option_map string_bytes answer.location ≡ Some to
   pub body : answer.body.items ≡ redirect_page title to
 
@@ -94,13 +94,13 @@ IsWayFrom values append locatt way wrong =
 -- ---- what is answered to a question
 
 -- JSON where it was asked for, and else a page
-abbrev pub media_of : Form → Media
+abbrev pub media_of : AnswerFormat → Media
 media_of Follow = media.Page
 media_of Page = media.Page
 media_of Json = media.Json
 media_of Pretty = media.Json
 
-abbrev pub is_json : Form → Bool
+abbrev pub is_json : AnswerFormat → Bool
 is_json Follow = false
 is_json Page = false
 is_json Json = true
@@ -110,25 +110,25 @@ is_json Pretty = true
 -- keep it as long as each of these values.
 pub record IsPage (handle : List ℕ) (wrong : Note) (values : List Value) (answer : Answer) : Type 0 where
   pub told : Tells status.Success media.Page answer
-  pub kept : IsKeepingOf values answer.keeping
+  pub kept : IsCacheControlOf values answer.cache_control
   pub about : option_map string_bytes answer.about ≡ Some (name_in_address handle)
   pub title : answer.title.items ≡ handle
   pub body : IsPageOf handle wrong values answer.body.items
 
 pub record IsJson (handle : List ℕ) (values : List Value) (answer : Answer) : Type 0 where
   pub told : Tells status.Success media.Json answer
-  pub kept : IsKeepingOf values answer.keeping
+  pub kept : IsCacheControlOf values answer.cache_control
   pub body : IsJsonOf handle values answer.body.items
 
 pub record IsPretty (handle : List ℕ) (values : List Value) (answer : Answer) : Type 0 where
   pub told : Tells status.Success media.Json answer
-  pub kept : IsKeepingOf values answer.keeping
+  pub kept : IsCacheControlOf values answer.cache_control
   pub body : IsPrettyOf handle values answer.body.items
 
 -- It leads there, and others may keep that as long as each of these values.
 pub record LeadsBy (handle : List ℕ) (values : List Value) (to : List ℕ) (answer : Answer) : Type 0 where
   pub leads : LeadsTo handle to answer
-  pub kept : IsKeepingOf values answer.keeping
+  pub kept : IsCacheControlOf values answer.cache_control
 
 -- it goes this way, and where there is none it is a page of the values that says what is wrong
 abbrev pub Goes : List ℕ → List Value → Option (List ℕ) → Note → Answer → Type 0
@@ -138,7 +138,7 @@ Goes handle values (Some to) wrong answer = LeadsBy handle values to answer
 -- A page that says when the handle went, and why, and of these values nothing else. Others may keep it as long as each of these values.
 pub record IsGone (handle : List ℕ) (gone : Value) (values : List Value) (answer : Answer) : Type 0 where
   pub told : Tells status.Gone media.Page answer
-  pub kept : IsKeepingOf values answer.keeping
+  pub kept : IsCacheControlOf values answer.cache_control
   pub about : option_map string_bytes answer.about ≡ Some (name_in_address handle)
   pub title : answer.title.items ≡ codes "Gone: " ++ handle
   pub body : IsGonePage handle gone answer.body.items
@@ -154,7 +154,7 @@ FollowsUnless None handle append locatt values answer = Follows handle append lo
 FollowsUnless (Some gone) handle append locatt values answer = IsGone handle gone values answer
 
 -- in this form these values: where they are to be followed, that they are gone where one says so, and else where they lead
-abbrev pub ShowsValues : Form → List ℕ → List ℕ → List ℕ → List Value → Answer → Type 0
+abbrev pub ShowsValues : AnswerFormat → List ℕ → List ℕ → List ℕ → List Value → Answer → Type 0
 ShowsValues Follow handle append locatt values answer =
     (gone : Option Value) × (IsFirstOf (codes "HS_GONE") values gone × FollowsUnless gone handle append locatt values answer)
 ShowsValues Page handle append locatt values answer = IsPage handle note.Nothing values answer
@@ -162,30 +162,30 @@ ShowsValues Json handle append locatt values answer = IsJson handle values answe
 ShowsValues Pretty handle append locatt values answer = IsPretty handle values answer
 
 -- the page, or the JSON, that says why there are no values
-abbrev pub refusal_body : Form → List ℕ → ℕ → List ℕ → List ℕ
+abbrev pub refusal_body : AnswerFormat → List ℕ → ℕ → List ℕ → List ℕ
 refusal_body Follow handle code why = refusal_page handle code why
 refusal_body Page handle code why = refusal_page handle code why
 refusal_body Json handle code why = compact_text (refusal_json handle code why)
 refusal_body Pretty handle code why = compact_text (refusal_json handle code why)
 
 -- the title of a page that refuses; JSON has none
-abbrev pub title_in : Form → ℕ → List ℕ → List ℕ
+abbrev pub title_in : AnswerFormat → ℕ → List ℕ → List ℕ
 title_in Follow code handle = refusal_title code handle
 title_in Page code handle = refusal_title code handle
 title_in Json code handle = []
 title_in Pretty code handle = []
 
 -- in this form, with this status, that there are no values, by code and reason; nobody may keep that
-pub record Refuses (given : Status) (form : Form) (handle : List ℕ) (code : ℕ) (why : List ℕ) (answer : Answer) : Type 0 where
+pub record Refuses (given : Status) (form : AnswerFormat) (handle : List ℕ) (code : ℕ) (why : List ℕ) (answer : Answer) : Type 0 where
   pub told : Tells given (media_of form) answer
-  pub kept : answer.keeping ≡ Never
+  pub kept : answer.cache_control ≡ Never
   pub title : answer.title.items ≡ title_in form code handle
   pub body : answer.body.items ≡ refusal_body form handle code why
 
 -- in this form what was found: values, or the status of a code, or that no server answered
-abbrev pub ShowsFound : Form → List ℕ → List ℕ → List ℕ → Found → Answer → Type 0
+abbrev pub ShowsFound : AnswerFormat → List ℕ → List ℕ → List ℕ → Found → Answer → Type 0
 ShowsFound form handle append locatt (Values values) answer = ShowsValues form handle append locatt values.items answer
-ShowsFound form handle append locatt (Refused code) answer = Refuses (status_of_code code) form handle (told_code code) (refused_words code) answer
+ShowsFound form handle append locatt (Refused code) answer = Refuses (status_of_code code) form handle (reported_code code) (refused_words code) answer
 ShowsFound form handle append locatt Nothing answer = Refuses status.BadGateway form handle 2 (codes "No server answered.") answer
 
 -- it answers the question by what was found of its handle in what a resolver gave, and by nothing else

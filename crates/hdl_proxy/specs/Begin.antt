@@ -11,16 +11,16 @@ use Rattle.hdl_proxy.specs.Link.{path_to}
 use Rattle.hdl_proxy.specs.Pasted.{IsPasted, IsWritten, between_spaces}
 use Rattle.hdl_proxy.specs.Query.{IsAppended, IsIndex, IsLast, IsLocatt, has_pair, index_of, values_named}
 use Rattle.hdl_proxy.specs.declared.answer.Answer.{Answer as Reply}
-use Rattle.hdl_proxy.specs.declared.answer.Keeping.{Keeping}
-use Rattle.hdl_proxy.specs.declared.answer.Keeping.TheVariants.{Never, Seconds}
+use Rattle.hdl_proxy.specs.declared.answer.CacheControl.{CacheControl}
+use Rattle.hdl_proxy.specs.declared.answer.CacheControl.TheVariants.{Never, Seconds}
 use Rattle.hdl_proxy.specs.declared.answer.Media.{Media}
 use Rattle.hdl_proxy.specs.declared.answer.Media.TheVariants as media
 use Rattle.hdl_proxy.specs.declared.answer.Status.TheVariants as status
 use Rattle.hdl_proxy.specs.declared.files.TheConstants.{ICON, ROBOTS}
 use Rattle.hdl_proxy.specs.declared.proxy.Next.{Next}
 use Rattle.hdl_proxy.specs.declared.proxy.Next.TheVariants.{Answer, Ask}
-use Rattle.hdl_proxy.specs.declared.question.Form.{Form}
-use Rattle.hdl_proxy.specs.declared.question.Form.TheVariants.{Follow, Page, Json, Pretty}
+use Rattle.hdl_proxy.specs.declared.question.AnswerFormat.{AnswerFormat}
+use Rattle.hdl_proxy.specs.declared.question.AnswerFormat.TheVariants.{Follow, Page, Json, Pretty}
 use Rattle.hdl_proxy.specs.declared.question.Question.{Question}
 use Rattle.hdl_proxy.specs.declared.codes.TheConstants.{INVALID_HANDLE, OPERATION_DENIED}
 
@@ -53,7 +53,7 @@ abbrev pub IsFaultSentence : List ℕ → List ℕ → Type 0
 IsFaultSentence name why = (fault : NameFault) × (IsFaultOf name fault × (why ≡ fault_sentence fault))
 
 -- this name, which is none, is refused in this form
-abbrev pub RefusesName : Form → List ℕ → Reply → Type 0
+abbrev pub RefusesName : AnswerFormat → List ℕ → Reply → Type 0
 RefusesName form name answer = (why : List ℕ) × (IsFaultSentence name why × Refuses status.BadRequest form name INVALID_HANDLE why answer)
 
 -- what is told of the name that the path means: its octets where they are text, and else the path, as it was sent
@@ -61,7 +61,7 @@ abbrev pub asked_text : List ℕ → List ℕ → List ℕ
 asked_text name sent = if is_utf8 name then name else sent
 
 -- a request for this name, which was sent so, is refused for this reason
-abbrev pub RefusesRequest : Form → List ℕ → List ℕ → List ℕ → Reply → Type 0
+abbrev pub RefusesRequest : AnswerFormat → List ℕ → List ℕ → List ℕ → Reply → Type 0
 RefusesRequest form name sent why answer = Refuses status.BadRequest form (asked_text name sent) INVALID_HANDLE why answer
 
 -- ---- the front page
@@ -69,7 +69,7 @@ RefusesRequest form name sent why answer = Refuses status.BadRequest form (asked
 -- the way to its own address, which nobody may keep, and where it is no name a page that says so
 abbrev pub LeadsToName : List ℕ → Reply → Type 0
 LeadsToName name answer =
-    (IsHandle name × LeadsTo name (path_to name) answer × (answer.keeping ≡ Never))
+    (IsHandle name × LeadsTo name (path_to name) answer × (answer.cache_control ≡ Never))
     ⊎ (¬ (IsHandle name) × RefusesName Page name answer)
 
 -- the way to the name that was pasted at a site with this address; spaces at its ends, and at those of all that was pasted, don't count
@@ -124,7 +124,7 @@ IsOfHandle path = IsUnder json_path path ⊎ ¬ (IsUnder api_path path)
 -- a file of this kind, whose octets are these, which others may keep for a day
 pub record IsFileOf (form : Media) (text : List ℕ) (answer : Reply) : Type 0 where
   pub told : Tells status.Success form answer
-  pub kept : answer.keeping ≡ Seconds 86_400
+  pub kept : answer.cache_control ≡ Seconds 86_400
   pub body : answer.body.items ≡ text
 
 -- the text for crawlers
@@ -137,7 +137,7 @@ IsIcon answer = IsFileOf media.Icon ICON.now answer
 -- nothing but the fields of the answer, which nobody may keep
 pub record IsBare (answer : Reply) : Type 0 where
   pub told : Tells status.NoContent media.Json answer
-  pub kept : answer.keeping ≡ Never
+  pub kept : answer.cache_control ≡ Never
   pub body : answer.body.items ≡ []
 
 -- the text for crawlers, or the icon
@@ -153,7 +153,7 @@ IsNoHandle path answer =
     ⊎ ((path ≢ list_path) × Refuses status.NotFound Json path OPERATION_DENIED (codes "There is nothing at this address. A handle is at /api/handles/HANDLE.") answer)
 
 -- that method is refused in this form
-abbrev pub RefusesMethodIn : Form → List ℕ → Reply → Type 0
+abbrev pub RefusesMethodIn : AnswerFormat → List ℕ → Reply → Type 0
 RefusesMethodIn form path answer = Refuses status.MethodNotAllowed form path OPERATION_DENIED (codes "Use GET or HEAD to read a handle.") answer
 
 -- another method is refused, by a page or under `/api/` in JSON; OPTIONS is answered there
@@ -171,15 +171,15 @@ without_slash [] = []
 without_slash (octet ∷ rest) = if octet == 47 then rest else octet ∷ rest
 
 -- a page where the query has `noredirect`, and else the way
-abbrev pub page_form : List (List ℕ × List ℕ) → Form
+abbrev pub page_form : List (List ℕ × List ℕ) → AnswerFormat
 page_form pairs = if has_pair (codes "noredirect") pairs then Page else Follow
 
 -- JSON over many lines where the query has `pretty`, and else without a space
-abbrev pub json_form : List (List ℕ × List ℕ) → Form
+abbrev pub json_form : List (List ℕ × List ℕ) → AnswerFormat
 json_form pairs = if has_pair (codes "pretty") pairs then Pretty else Json
 
 -- JSON is asked for as a call of a function
-abbrev pub is_called_back : Form → List (List ℕ × List ℕ) → Bool
+abbrev pub is_called_back : AnswerFormat → List (List ℕ × List ℕ) → Bool
 is_called_back form pairs = is_json form && has_pair (codes "callback") pairs
 
 -- the name that a program asks for: what the rest of the path stands for, its escapes read once
@@ -192,28 +192,28 @@ IsMeant path sent name =
     (sent ≡ without_slash path) × ((text : List ℕ) × (IsWritten sent text × (name ≡ between_spaces (percent_decode text))))
 
 -- the form that an address asks for, the part of its path that was sent for a name, and the name: JSON where the path begins so, and else a page or the way
-abbrev pub IsAddress : List ℕ → List (List ℕ × List ℕ) → Form → List ℕ → List ℕ → Type 0
+abbrev pub IsAddress : List ℕ → List (List ℕ × List ℕ) → AnswerFormat → List ℕ → List ℕ → Type 0
 IsAddress path pairs form sent name =
     ((form ≡ json_form pairs) × IsExact path sent name)
     ⊎ ((form ≡ page_form pairs) × ¬ (IsUnder api_path path) × IsMeant path sent name)
 
 -- aliases are followed where a URL is, unless the query has `ignore_aliases`
-abbrev pub is_way : Form → Bool
+abbrev pub is_way : AnswerFormat → Bool
 is_way Follow = true
 is_way Page = false
 is_way Json = false
 is_way Pretty = false
 
-abbrev pub follows_aliases : Form → List (List ℕ × List ℕ) → Bool
+abbrev pub follows_aliases : AnswerFormat → List (List ℕ × List ℕ) → Bool
 follows_aliases form pairs = is_way form && not (has_pair (codes "ignore_aliases") pairs)
 
 -- others may keep what is answered for a day at most, and where the query has `auth` not without asking again
-abbrev pub first_keeping : List (List ℕ × List ℕ) → Keeping
-first_keeping pairs = if has_pair (codes "auth") pairs then Seconds 0 else Seconds 86_400
+abbrev pub first_cache_control : List (List ℕ × List ℕ) → CacheControl
+first_cache_control pairs = if has_pair (codes "auth") pairs then Seconds 0 else Seconds 86_400
 
 -- what is asked of this name: the indexes and types of all pairs `index` and `type`, what is appended, whether a server is asked whatever is kept, and whether aliases
 -- are followed, of which none was yet
-pub record IsAsked (asked : List ℕ) (wanted : Form) (pairs : List (List ℕ × List ℕ)) (question : Question) : Type 0 where
+pub record IsAsked (asked : List ℕ) (wanted : AnswerFormat) (pairs : List (List ℕ × List ℕ)) (question : Question) : Type 0 where
   pub name : question.name ≡ asked
   pub form : question.form ≡ wanted
   pub good : All IsIndex (values_named (codes "index") pairs)
@@ -224,23 +224,23 @@ pub record IsAsked (asked : List ℕ) (wanted : Form) (pairs : List (List ℕ ×
   pub aliases : question.aliases ≡ follows_aliases wanted pairs
   pub passed : question.passed.items ≡ []
   pub tried : question.tried.items ≡ []
-  pub keeping : question.keeping ≡ first_keeping pairs
+  pub cache_control : question.cache_control ≡ first_cache_control pairs
   pub anew : question.anew ≡ has_pair (codes "auth") pairs
   pub no_call : is_called_back wanted pairs ≡ false
 
 -- why a request for this name is refused: a call is asked for, an index is none, or the name is none
-abbrev pub IsReason : List ℕ → Form → List (List ℕ × List ℕ) → List ℕ → Type 0
+abbrev pub IsReason : List ℕ → AnswerFormat → List (List ℕ × List ℕ) → List ℕ → Type 0
 IsReason name form pairs why =
     ((is_called_back form pairs ≡ true) × (why ≡ codes "callback is refused: pages of any site may read this JSON without it."))
     ⊎ (¬ (All IsIndex (values_named (codes "index") pairs)) × (why ≡ codes "An index is a number below 4294967296."))
     ⊎ (¬ (IsHandle name) × IsFaultSentence name why)
 
 -- the name that was sent so is asked for, or where there is a reason the request is refused
-abbrev pub AsksFor : List ℕ → List ℕ → Form → List (List ℕ × List ℕ) → Next → Type 0
+abbrev pub AsksFor : List ℕ → List ℕ → AnswerFormat → List (List ℕ × List ℕ) → Next → Type 0
 AsksFor sent name form pairs (Ask question) = IsAsked name form pairs question
 AsksFor sent name form pairs (Answer answer) = (why : List ℕ) × (IsReason name form pairs why × RefusesRequest form name sent why answer)
 
 -- it asks in this form for this name
 abbrev pub AsksAddress : List ℕ → List (List ℕ × List ℕ) → Next → Type 0
 AsksAddress path pairs next =
-    (form : Form) × (sent : List ℕ) × (name : List ℕ) × (IsAddress path pairs form sent name × AsksFor sent name form pairs next)
+    (form : AnswerFormat) × (sent : List ℕ) × (name : List ℕ) × (IsAddress path pairs form sent name × AsksFor sent name form pairs next)

@@ -7,7 +7,7 @@ use Rattle.hdl_proxy.specs.Alias.{is_among}
 use Rattle.hdl_proxy.specs.Answer.{Tells}
 use Rattle.hdl_proxy.specs.Pages.{advice_part, meant_part, name_part, refusal_title, top}
 use Rattle.hdl_proxy.specs.declared.answer.Answer.{Answer as Reply}
-use Rattle.hdl_proxy.specs.declared.answer.Keeping.TheVariants.{Never}
+use Rattle.hdl_proxy.specs.declared.answer.CacheControl.TheVariants.{Never}
 use Rattle.hdl_proxy.specs.declared.answer.Media.TheVariants as media
 use Rattle.hdl_proxy.specs.declared.answer.Status.TheVariants as status
 use Rattle.hdl_proxy.specs.declared.codes.TheConstants.{HANDLE_NOT_FOUND}
@@ -52,6 +52,6 @@ missing_page asked meant = top (codes "This handle isn't there.") ++ (name_part 
 -- a page that says so, which nobody may keep
 pub record IsMissing (asked : List ℕ) (meant : Option (List ℕ)) (answer : Reply) : Type 0 where
   pub told : Tells status.NotFound media.Page answer
-  pub kept : answer.keeping ≡ Never
+  pub kept : answer.cache_control ≡ Never
   pub title : answer.title.items ≡ refusal_title HANDLE_NOT_FOUND asked
   pub body : answer.body.items ≡ missing_page asked meant

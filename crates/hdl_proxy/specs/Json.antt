@@ -11,9 +11,9 @@ use Rattle.hdl_value.specs.declared.references.RawRef.{RawRef}
 use Rattle.hdl_value.specs.declared.value.Value.{Value}
 use Rattle.hdl_value.specs.Data.{admin_kind, list_kind}
 use Rattle.hdl_value.specs.Refs.{admin_read, list_read}
-use Rattle.hdl_proxy.specs.declared.words.KeptFor.{KeptFor}
-use Rattle.hdl_proxy.specs.declared.words.KeptFor.TheVariants.{Seconds, Until}
-use Rattle.hdl_proxy.specs.Words.{text_of, permission_digits, value_digits, usual_permissions, IsKeptFor, IsWritten}
+use Rattle.hdl_proxy.specs.declared.words.CacheLifetime.{CacheLifetime}
+use Rattle.hdl_proxy.specs.declared.words.CacheLifetime.TheVariants.{Seconds, Until}
+use Rattle.hdl_proxy.specs.Words.{text_of, permission_digits, value_digits, usual_permissions, IsCacheLifetime, IsWritten}
 
 -- a member that is text
 abbrev pub put_text : List ℕ → List ℕ → Members → Members
@@ -61,7 +61,7 @@ data_json v = unwrap_or (option_map admin_json (admin_read v)) (unwrap_or (optio
 
 -- ---- a value
 
-abbrev pub kept_json : KeptFor → Data
+abbrev pub kept_json : CacheLifetime → Data
 kept_json (Seconds n) = number (unsigned n)
 kept_json (Until words) = string (string_bytes words)
 
@@ -77,7 +77,7 @@ put_written timestamp written members = if timestamp == 0 then members else put 
 abbrev pub put_permissions : Value → Members → Members
 put_permissions v members = if v.permissions == usual_permissions v.kind then members else put (codes "permissions") (string (value_digits v.permissions)) members
 
-unfoldable pub value_json : Value → KeptFor → Option (List ℕ) → Data
+unfoldable pub value_json : Value → CacheLifetime → Option (List ℕ) → Data
 value_json v kept written =
     object (put_permissions v (put_written v.timestamp written
     (put (codes "ttl") (kept_json kept)
@@ -86,7 +86,7 @@ value_json v kept written =
     (put (codes "index") (number (unsigned v.index)) no_members))))))
 
 abbrev pub IsValueJson : Value → Data → Type 0
-IsValueJson v d = (kept : KeptFor) × (written : Option (List ℕ)) × IsKeptFor v kept × IsWritten v written × (d ≡ value_json v kept written)
+IsValueJson v d = (kept : CacheLifetime) × (written : Option (List ℕ)) × IsCacheLifetime v kept × IsWritten v written × (d ≡ value_json v kept written)
 
 -- ---- what is answered
 

@@ -7,7 +7,7 @@ pub mod Found
 pub mod Guess
 pub mod Hops
 pub mod Json
-pub mod Keeping
+pub mod CacheControl
 pub mod Link
 pub mod Locations
 pub mod Note

@@ -6,8 +6,8 @@ use Rattle.hdl_proxy.specs.Pages.{element}
 use Rattle.hdl_proxy.specs.Step.{IsWithin}
 use Rattle.hdl_proxy.specs.Url.{IsFollowed, IsSiteAddress}
 use Rattle.hdl_proxy.specs.declared.answer.Answer.{Answer}
-use Rattle.hdl_proxy.specs.declared.answer.Keeping.{Keeping}
-use Rattle.hdl_proxy.specs.declared.answer.Keeping.TheVariants.{Never, Seconds}
+use Rattle.hdl_proxy.specs.declared.answer.CacheControl.{CacheControl}
+use Rattle.hdl_proxy.specs.declared.answer.CacheControl.TheVariants.{Never, Seconds}
 use Rattle.hdl_proxy.specs.declared.answer.Media.TheVariants as media
 use Rattle.hdl_proxy.specs.declared.site.Contact.{Contact}
 use Rattle.hdl_proxy.specs.declared.site.Site.{Site}
@@ -89,7 +89,7 @@ pub record Dresses (site : Site) (before after : Answer) : Type 0 where
   pub status : after.status ≡ before.status
   pub location : after.location ≡ before.location
   pub media : after.media ≡ media.Page
-  pub keeping : after.keeping ≡ before.keeping
+  pub cache_control : after.cache_control ≡ before.cache_control
   pub tag : after.tag ≡ before.tag
   pub title : after.title ≡ before.title
   pub about : option_map string_bytes after.about ≡ whole_address (option_map string_bytes site.address) (option_map string_bytes before.about)
@@ -104,11 +104,11 @@ IsDressed site before after =
 -- ---- redirects
 
 -- others keep a redirect for at most this many seconds, and for none not at all
-abbrev pub redirect_keeping : ℕ → Keeping
-redirect_keeping seconds = if seconds == 0 then Never else Seconds seconds
+abbrev pub redirect_cache_control : ℕ → CacheControl
+redirect_cache_control seconds = if seconds == 0 then Never else Seconds seconds
 
 -- a redirect is kept no longer than the site says, and all else stays
 abbrev pub IsBound : Site → Answer → Answer → Type 0
 IsBound site before after =
     ((before.location ≡ None) × (after ≡ before))
-    ⊎ ((before.location ≢ None) × IsWithin (redirect_keeping site.redirects) before after)
+    ⊎ ((before.location ≢ None) × IsWithin (redirect_cache_control site.redirects) before after)

@@ -33,8 +33,8 @@ status_of_code code =
     else BadGateway
 
 -- the code that is told: where no server has the prefix, the handle isn't there
-abbrev pub told_code : ℕ → ℕ
-told_code code = if code == SERVICE_REFERRAL then HANDLE_NOT_FOUND else code
+abbrev pub reported_code : ℕ → ℕ
+reported_code code = if code == SERVICE_REFERRAL then HANDLE_NOT_FOUND else code
 
 -- why there are no values, by the code
 abbrev pub refused_words : ℕ → List ℕ

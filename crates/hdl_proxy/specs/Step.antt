@@ -8,19 +8,19 @@ use Rattle.hdl_proxy.specs.Found.{IsFoundOf}
 use Rattle.hdl_proxy.specs.Guess.{IsGuess, IsMissing}
 use Rattle.hdl_proxy.specs.Hops.{alias_part, nowhere_page}
 use Rattle.hdl_proxy.specs.Json.{refusal_json}
-use Rattle.hdl_proxy.specs.Keeping.{sooner}
+use Rattle.hdl_proxy.specs.CacheControl.{sooner}
 use Rattle.hdl_proxy.specs.declared.alias.Hop.{Hop}
 use Rattle.hdl_proxy.specs.declared.answer.Answer.{Answer as Reply}
-use Rattle.hdl_proxy.specs.declared.answer.Keeping.{Keeping}
-use Rattle.hdl_proxy.specs.declared.answer.Keeping.TheVariants.{Never}
+use Rattle.hdl_proxy.specs.declared.answer.CacheControl.{CacheControl}
+use Rattle.hdl_proxy.specs.declared.answer.CacheControl.TheVariants.{Never}
 use Rattle.hdl_proxy.specs.declared.answer.Media.TheVariants as media
 use Rattle.hdl_proxy.specs.declared.answer.Status.TheVariants as status
 use Rattle.hdl_proxy.specs.declared.found.Found.{Found}
 use Rattle.hdl_proxy.specs.declared.found.Found.TheVariants.{Values, Refused, Nothing}
 use Rattle.hdl_proxy.specs.declared.proxy.Next.{Next}
 use Rattle.hdl_proxy.specs.declared.proxy.Next.TheVariants.{Answer, Ask}
-use Rattle.hdl_proxy.specs.declared.question.Form.{Form}
-use Rattle.hdl_proxy.specs.declared.question.Form.TheVariants.{Follow, Page, Json, Pretty}
+use Rattle.hdl_proxy.specs.declared.question.AnswerFormat.{AnswerFormat}
+use Rattle.hdl_proxy.specs.declared.question.AnswerFormat.TheVariants.{Follow, Page, Json, Pretty}
 use Rattle.hdl_proxy.specs.declared.question.Question.{Question}
 use Rattle.hdl_proxy.specs.declared.resolver.NoAnswer.{NoAnswer}
 use Rattle.hdl_proxy.specs.declared.codes.TheConstants.{HANDLE_NOT_FOUND, TOO_FAR, VALUE_NOT_FOUND}
@@ -28,8 +28,8 @@ use Rattle.hdl_proxy.specs.declared.codes.TheConstants.{HANDLE_NOT_FOUND, TOO_FA
 -- ---- no alias is followed
 
 -- the same answer, which others may keep no longer than this
-pub record IsWithin (most : Keeping) (before after : Reply) : Type 0 where
-  pub keeping : after.keeping ≡ sooner most before.keeping
+pub record IsWithin (most : CacheControl) (before after : Reply) : Type 0 where
+  pub cache_control : after.cache_control ≡ sooner most before.cache_control
   pub status : after.status ≡ before.status
   pub location : after.location ≡ before.location
   pub media : after.media ≡ before.media
@@ -44,7 +44,7 @@ alias_title asked title = asked ++ (codes ", an alias: " ++ title)
 
 -- the same page, which says which handle was asked for, by a link to its own values
 pub record IsOfAlias (asked : List ℕ) (before after : Reply) : Type 0 where
-  pub keeping : after.keeping ≡ before.keeping
+  pub cache_control : after.cache_control ≡ before.cache_control
   pub status : after.status ≡ before.status
   pub location : after.location ≡ before.location
   pub media : after.media ≡ before.media
@@ -63,7 +63,7 @@ IsNamed (Some asked) before after = ((before.media ≡ media.Page) × IsOfAlias 
 abbrev pub Ends : Question → Found → Reply → Type 0
 Ends question found answer =
     (shown kept : Reply) × (ShowsFound question.form question.name question.append.items (string_bytes question.locatt) found shown
-    × IsWithin question.keeping shown kept × IsNamed (slice_get question.passed.items 0) kept answer)
+    × IsWithin question.cache_control shown kept × IsNamed (slice_get question.passed.items 0) kept answer)
 
 -- ---- an alias is followed
 
@@ -85,20 +85,20 @@ pub record IsNext (question : Question) (hop : Hop) (next : Question) : Type 0 w
   pub aliases : next.aliases ≡ question.aliases
   pub passed : next.passed.items ≡ asked_for question
   pub tried : next.tried.items ≡ []
-  pub keeping : next.keeping ≡ sooner question.keeping hop.keeping
+  pub cache_control : next.cache_control ≡ sooner question.cache_control hop.cache_control
   pub anew : next.anew ≡ question.anew
 
 -- that the aliases of these handles lead nowhere, the last of them to this one, told of the first one by all of them: a page has a link to each
-abbrev pub nowhere_body : Form → List ℕ → List (List ℕ) → List ℕ → List ℕ
+abbrev pub nowhere_body : AnswerFormat → List ℕ → List (List ℕ) → List ℕ → List ℕ
 nowhere_body Follow front asked target = nowhere_page (first_of asked) front asked target
 nowhere_body Page front asked target = nowhere_page (first_of asked) front asked target
 nowhere_body Json front asked target = compact_text (refusal_json (first_of asked) TOO_FAR (way_words front asked target))
 nowhere_body Pretty front asked target = compact_text (refusal_json (first_of asked) TOO_FAR (way_words front asked target))
 
 -- it isn't there, and nobody may keep that
-pub record LeadsNowhere (form : Form) (front : List ℕ) (asked : List (List ℕ)) (target : List ℕ) (answer : Reply) : Type 0 where
+pub record LeadsNowhere (form : AnswerFormat) (front : List ℕ) (asked : List (List ℕ)) (target : List ℕ) (answer : Reply) : Type 0 where
   pub told : Tells status.NotFound (media_of form) answer
-  pub kept : answer.keeping ≡ Never
+  pub kept : answer.cache_control ≡ Never
   pub title : answer.title.items ≡ title_in form TOO_FAR (first_of asked)
   pub body : answer.body.items ≡ nowhere_body form front asked target
 

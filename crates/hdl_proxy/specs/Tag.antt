@@ -5,7 +5,7 @@ use Rattle.std.specs.Str.Pattern.{HasTextAt}
 use Rattle.hex.specs.Hex.{encode_lower}
 use Rattle.sha2.specs.Sha256.{sha256}
 use Rattle.hdl_proxy.specs.declared.answer.Answer.{Answer}
-use Rattle.hdl_proxy.specs.declared.answer.Keeping.TheVariants.{Never}
+use Rattle.hdl_proxy.specs.declared.answer.CacheControl.TheVariants.{Never}
 use Rattle.hdl_proxy.specs.declared.answer.Status.TheVariants.{Success, NotModified}
 
 -- the tag of a body: its SHA-256 digest in hexadecimal digits, in quotes
@@ -14,7 +14,7 @@ tag_of body = 34 ∷ encode_lower (sha256 body) ++ 34 ∷ []
 
 -- it succeeds, and others may keep it
 abbrev pub IsTaggable : Answer → Type 0
-IsTaggable answer = (answer.status ≡ Success) × (answer.keeping ≢ Never)
+IsTaggable answer = (answer.status ≡ Success) × (answer.cache_control ≢ Never)
 
 -- a field If-None-Match names the tag: it is `*`, or has the tag somewhere
 abbrev pub IsNamedIn : List ℕ → List ℕ → Type 0
@@ -32,7 +32,7 @@ pub record Carries (before : Answer) (named : List ℕ) (after : Answer) : Type 
   pub media : after.media ≡ before.media
   pub about : after.about ≡ before.about
   pub title : after.title ≡ before.title
-  pub keeping : after.keeping ≡ before.keeping
+  pub cache_control : after.cache_control ≡ before.cache_control
   pub body : after.body ≡ before.body
 
 -- that the answer with this tag is unchanged: no body
@@ -43,7 +43,7 @@ pub record IsUnchanged (before : Answer) (named : List ℕ) (after : Answer) : T
   pub media : after.media ≡ before.media
   pub about : after.about ≡ before.about
   pub title : after.title ≡ before.title
-  pub keeping : after.keeping ≡ before.keeping
+  pub cache_control : after.cache_control ≡ before.cache_control
   pub body : after.body.items ≡ []
 
 -- an answer that others may keep has its tag, and is unchanged where the client names that tag; every other one stays as it is

@@ -12,8 +12,8 @@ use Rattle.std.specs.Str.{bytes_eq}
 use Rattle.hdl_value.specs.Data.{secret_key_kind}
 use Rattle.hdl_value.specs.Permission.{bits}
 use Rattle.hdl_value.specs.declared.value.Value.{Value}
-use Rattle.hdl_proxy.specs.declared.words.KeptFor.{KeptFor}
-use Rattle.hdl_proxy.specs.declared.words.KeptFor.TheVariants.{Seconds, Until}
+use Rattle.hdl_proxy.specs.declared.words.CacheLifetime.{CacheLifetime}
+use Rattle.hdl_proxy.specs.declared.words.CacheLifetime.TheVariants.{Seconds, Until}
 
 -- ---- octets
 
@@ -61,6 +61,6 @@ ttl_kind v = slice_index v.ttl 0
 abbrev pub ttl_seconds : Value → ℕ
 ttl_seconds v = from_be_bytes w32 (drop 1 v.ttl)
 
-abbrev pub IsKeptFor : Value → KeptFor → Type 0
-IsKeptFor v (Seconds n) = (ttl_kind v ≢ 1) × (n ≡ ttl_seconds v)
-IsKeptFor v (Until words) = (ttl_kind v ≡ 1) × IsMomentText (pos (ttl_seconds v * 1_000_000_000)) (string_bytes words)
+abbrev pub IsCacheLifetime : Value → CacheLifetime → Type 0
+IsCacheLifetime v (Seconds n) = (ttl_kind v ≢ 1) × (n ≡ ttl_seconds v)
+IsCacheLifetime v (Until words) = (ttl_kind v ≡ 1) × IsMomentText (pos (ttl_seconds v * 1_000_000_000)) (string_bytes words)

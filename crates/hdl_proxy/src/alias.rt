@@ -3,10 +3,10 @@
 ghost use Rattle.std.specs.Prelude.{◌≡◌, ◌++◌, IfOk, OnOk, flat_map, option_map, string_bytes};
 ghost use Rattle.hdl_proxy.specs.Alias.{IsAliasAmong, IsAliasOf, IsHop, IsHopIf, hop_words, is_among, is_same, way_words};
 
-use crate::answer::Keeping;
+use crate::answer::CacheControl;
+use crate::cache_control::cache_control_of;
 use crate::choice::{first_alias, first_gone};
 use crate::found::Found;
-use crate::keeping::keeping_of;
 use crate::names::{read_name, text_of};
 use hdl_name::Name;
 use hdl_value::Value;
@@ -16,7 +16,7 @@ use std::alloc::{AllocError, Global};
 #[derive(Drop)]
 pub(crate) struct Hop {
     pub(crate) target: Name,
-    pub(crate) keeping: Keeping,
+    pub(crate) cache_control: CacheControl,
 }
 
 /// The handle that the alias of these values names: that of the lowest index, where it names one.
@@ -52,7 +52,7 @@ fn hop_of(alloc: Global, values: &[Value], follows: bool) -> Result<Option<Hop>,
     match alias_of(alloc, values)? {
         Some(target) => Ok(Some(Hop {
             target,
-            keeping: keeping_of(values),
+            cache_control: cache_control_of(values),
         })),
         None => Ok(None),
     }

@@ -2,7 +2,7 @@
 
 ghost use Rattle.std.specs.Prelude.{◌≡◌, [], None};
 ghost use Rattle.hdl_proxy.specs.Answer.{Tells};
-ghost use Rattle.hdl_proxy.specs.Status.{status_number, status_of_code, told_code};
+ghost use Rattle.hdl_proxy.specs.Status.{status_number, status_of_code, reported_code};
 
 use crate::codes::{
     HANDLE_NOT_FOUND, INVALID_HANDLE, SERVER_BUSY, SERVICE_REFERRAL, SUCCESS, VALUE_NOT_FOUND,
@@ -53,8 +53,8 @@ impl Status {
 }
 
 /// The code that the proxy gives for a server's code: "handle not found" for a referral, else the same.
-pub fn told_code(code: u32) -> u32
-    ensures { result ≡ told_code code }
+pub fn reported_code(code: u32) -> u32
+    ensures { result ≡ reported_code code }
 {
     match code {
         SERVICE_REFERRAL => HANDLE_NOT_FOUND,
@@ -68,7 +68,7 @@ pub enum Media {
     /// `text/html; charset=utf-8`
     Page,
     /// The same, of a page that a browser leaves at once.
-    Way,
+    Redirect,
     /// `application/json`, which any page may read
     Json,
     /// `text/plain; charset=utf-8`
@@ -79,7 +79,7 @@ pub enum Media {
 
 /// How long others may keep an answer (RFC 9111, section 5.2.2).
 #[derive(Clone, Copy, PartialEq, Eq)]
-pub enum Keeping {
+pub enum CacheControl {
     /// Not at all.
     Never,
     Seconds(u32),
@@ -92,7 +92,7 @@ pub struct Answer {
     /// Where to go: graphic ASCII alone.
     pub location: Option<String>,
     pub media: Media,
-    pub keeping: Keeping,
+    pub cache_control: CacheControl,
     /// Its entity tag, which [`with_tag`](crate::with_tag) gives it.
     pub tag: Option<String>,
     /// The name of the handle that a page is about, as it stands in an address. [`Site::dress`](crate::Site::dress) makes it the whole address, if the site has one.
@@ -109,11 +109,11 @@ impl Answer {
         alloc: Global,
         status: Status,
         media: Media,
-        keeping: Keeping,
+        cache_control: CacheControl,
         body: Vec<u8>,
     ) -> Answer
         ensures told { Tells status media result }
-        ensures keeping { result.keeping ≡ keeping }
+        ensures cache_control { result.cache_control ≡ cache_control }
         ensures about { result.about ≡ None }
         ensures title { result.title.items ≡ [] }
         ensures body { result.body ≡ body }
@@ -122,7 +122,7 @@ impl Answer {
             status,
             location: None,
             media,
-            keeping,
+            cache_control,
             tag: None,
             about: None,
             title: Vec::new(alloc),

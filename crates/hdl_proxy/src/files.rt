@@ -3,8 +3,8 @@
 ghost use Rattle.std.specs.Prelude.{IfOk};
 ghost use Rattle.hdl_proxy.specs.Begin.{IsFileOf, IsIcon, IsRobots};
 
-use crate::answer::{Answer, Keeping, Media, Status};
-use crate::keeping::DAY;
+use crate::answer::{Answer, CacheControl, Media, Status};
+use crate::cache_control::DAY_SECONDS;
 use std::alloc::{AllocError, Global};
 
 /// What crawlers may read: the addresses of handles, and not the interface for programs.
@@ -21,7 +21,13 @@ fn file(alloc: Global, media: Media, text: &str) -> Result<Answer, AllocError>
     ensures { IfOk result (IsFileOf media text.now) }
 {
     let body = Vec::from_slice(alloc, text.as_bytes())?;
-    Ok(Answer::new(alloc, Status::Success, media, Keeping::Seconds(DAY), body))
+    Ok(Answer::new(
+        alloc,
+        Status::Success,
+        media,
+        CacheControl::Seconds(DAY_SECONDS),
+        body,
+    ))
 }
 
 /// `robots.txt` (RFC 9309).

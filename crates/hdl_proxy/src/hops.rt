@@ -5,7 +5,7 @@ ghost use Rattle.hdl_proxy.specs.Answer.{Tells};
 ghost use Rattle.hdl_proxy.specs.Hops.{alias_part, hop_part, hops_part, nowhere_page};
 ghost use Rattle.hdl_proxy.specs.Pages.{refusal_title};
 
-use crate::answer::{Answer, Keeping, Media, Status};
+use crate::answer::{Answer, CacheControl, Media, Status};
 use crate::codes::TOO_FAR;
 use crate::page::Page;
 use crate::pages::{page_answer, put_advice, put_name, refusal_title};
@@ -61,7 +61,7 @@ pub(crate) fn nowhere_page(
     target: &Name,
 ) -> Result<Answer, AllocError>
     ensures told { IfOk result (Tells Status.NotFound Media.Page) }
-    ensures kept { IfOk result (λ a. a.keeping ≡ Keeping.Never) }
+    ensures kept { IfOk result (λ a. a.cache_control ≡ CacheControl.Never) }
     ensures title { IfOk result (λ a. a.title.items ≡ refusal_title 6 handle.now) }
     ensures body { IfOk result (λ a. a.body.items ≡ nowhere_page handle.now front.now names.now target.now) }
 {
@@ -71,5 +71,5 @@ pub(crate) fn nowhere_page(
     page.element("<p>", front.as_bytes(), "</p>\n")?;
     put_hops(&mut page, names, target)?;
     put_advice(&mut page, TOO_FAR, handle)?;
-    Ok(page_answer(Status::NotFound, Keeping::Never, title, page))
+    Ok(page_answer(Status::NotFound, CacheControl::Never, title, page))
 }

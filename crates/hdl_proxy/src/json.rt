@@ -9,10 +9,11 @@ ghost use Rattle.hdl_value.specs.Refs.{raw, raws};
 ghost use Rattle.hdl_proxy.specs.Json.{put_text as with_text, with_format, reference_members, reference_json, admin_json, list_json, base64_json, text_json, octets_json, data_json, is_text, kept_json, put_written, written_json, put_permissions, value_json, answer_json, refusal_json, IsValueJson, IsJsonOf, IsPrettyOf};
 ghost use Rattle.hdl_proxy.specs.Answer.{Tells};
 
-use crate::answer::{Answer, Keeping, Media, Status};
+use crate::answer::{Answer, CacheControl, Media, Status};
 use crate::names::text_of;
 use crate::words::{
-    KeptFor, kept_for, permission_digits, usual_permissions, value_digits, written_words,
+    CacheLifetime, cache_lifetime, permission_digits, usual_permissions, value_digits,
+    written_words,
 };
 use base64::engine::general_purpose::STANDARD;
 use hdl_value::{AdminMask, HS_ADMIN, HS_VLIST, Reference, Value, admin_of, vlist_of};
@@ -29,26 +30,26 @@ const HS_PUBKEY: &[u8] = b"HS_PUBKEY";
 fn kept_answer(
     alloc: Global,
     status: Status,
-    keeping: Keeping,
+    cache_control: CacheControl,
     json: &Json,
 ) -> Result<Answer, AllocError>
     ensures told { IfOk result (Tells status Media.Json) }
-    ensures kept { IfOk result (λ a. a.keeping ≡ keeping) }
+    ensures kept { IfOk result (λ a. a.cache_control ≡ cache_control) }
     ensures title { IfOk result (λ a. a.title.items ≡ []) }
     ensures body { IfOk result (λ a. has_float (view json.now) ≡ false → a.body.items ≡ compact_text (view json.now)) }
 {
     let text = json.to_string(alloc)?;
-    Ok(Answer::new(alloc, status, Media::Json, keeping, text.into_bytes()))
+    Ok(Answer::new(alloc, status, Media::Json, cache_control, text.into_bytes()))
 }
 
 /// An answer in JSON, which may not be cached.
 pub fn json_answer(alloc: Global, status: Status, json: &Json) -> Result<Answer, AllocError>
     ensures told { IfOk result (Tells status Media.Json) }
-    ensures kept { IfOk result (λ a. a.keeping ≡ Keeping.Never) }
+    ensures kept { IfOk result (λ a. a.cache_control ≡ CacheControl.Never) }
     ensures title { IfOk result (λ a. a.title.items ≡ []) }
     ensures body { IfOk result (λ a. has_float (view json.now) ≡ false → a.body.items ≡ compact_text (view json.now)) }
 {
-    kept_answer(alloc, status, Keeping::Never, json)
+    kept_answer(alloc, status, CacheControl::Never, json)
 }
 
 /// Puts a member that is text; octets that are none by their hexadecimal digits.
@@ -84,7 +85,7 @@ pub fn refusal(
     why: &str,
 ) -> Result<Answer, AllocError>
     ensures told { IfOk result (Tells status Media.Json) }
-    ensures kept { IfOk result (λ a. a.keeping ≡ Keeping.Never) }
+    ensures kept { IfOk result (λ a. a.cache_control ≡ CacheControl.Never) }
     ensures title { IfOk result (λ a. a.title.items ≡ []) }
     ensures body { IfOk result (λ a. a.body.items ≡ compact_text (refusal_json asked.now code why.now)) }
 {
@@ -191,12 +192,12 @@ fn data_json(alloc: Global, value: &Value) -> Result<Json, AllocError>
     }
 }
 
-fn kept_json(kept: KeptFor) -> Json
+fn kept_json(kept: CacheLifetime) -> Json
     ensures { view result ≡ kept_json kept }
 {
     match kept {
-        KeptFor::Seconds(seconds) => Json::from(seconds),
-        KeptFor::Until(moment) => Json::from(moment),
+        CacheLifetime::Seconds(seconds) => Json::from(seconds),
+        CacheLifetime::Until(moment) => Json::from(moment),
     }
 }
 
@@ -243,7 +244,7 @@ fn put_permissions(
 fn value_json(alloc: Global, value: &Value) -> Result<Json, AllocError>
     ensures { IfOk result (λ json. IsValueJson value.now (view json)) }
 {
-    let kept = kept_for(alloc, value)?;
+    let kept = cache_lifetime(alloc, value)?;
     let written = written_words(alloc, value)?;
     let mut object = Map::new(alloc);
     put(&mut object, alloc, "index", Json::from(value.index))?;
@@ -281,14 +282,14 @@ pub fn values_answer(
     alloc: Global,
     handle: &[u8],
     values: &[Value],
-    keeping: Keeping,
+    cache_control: CacheControl,
 ) -> Result<Answer, AllocError>
     ensures told { IfOk result (Tells Status.Success Media.Json) }
-    ensures kept { IfOk result (λ a. a.keeping ≡ keeping) }
+    ensures kept { IfOk result (λ a. a.cache_control ≡ cache_control) }
     ensures body { IfOk result (λ a. IsJsonOf handle.now values.now a.body.items) }
 {
     let json = answer_json(alloc, handle, values)?;
-    kept_answer(alloc, Status::Success, keeping, &json)
+    kept_answer(alloc, Status::Success, cache_control, &json)
 }
 
 /// This JSON over many lines.
@@ -303,13 +304,13 @@ pub(crate) fn pretty_answer(
     alloc: Global,
     handle: &[u8],
     values: &[Value],
-    keeping: Keeping,
+    cache_control: CacheControl,
 ) -> Result<Answer, AllocError>
     ensures told { IfOk result (Tells Status.Success Media.Json) }
-    ensures kept { IfOk result (λ a. a.keeping ≡ keeping) }
+    ensures kept { IfOk result (λ a. a.cache_control ≡ cache_control) }
     ensures body { IfOk result (λ a. IsPrettyOf handle.now values.now a.body.items) }
 {
     let json = answer_json(alloc, handle, values)?;
     let body = pretty_octets(alloc, &json)?;
-    Ok(Answer::new(alloc, Status::Success, Media::Json, keeping, body))
+    Ok(Answer::new(alloc, Status::Success, Media::Json, cache_control, body))
 }

@@ -6,16 +6,16 @@ ghost use Rattle.std.specs.List.{list_any};
 ghost use Rattle.hdl_proxy.specs.Choice.{is_of};
 ghost use Rattle.hdl_proxy.specs.Answer.{IsGone, IsLocated, LeadsTo, Tells};
 ghost use Rattle.hdl_proxy.specs.Guess.{missing_page};
-ghost use Rattle.hdl_proxy.specs.Keeping.{IsKeepingOf};
+ghost use Rattle.hdl_proxy.specs.CacheControl.{IsCacheControlOf};
 ghost use Rattle.hdl_proxy.specs.Link.{name_in_address};
 ghost use Rattle.hdl_proxy.specs.Status.{advice, ends_with_slash, look_again};
 
-use crate::answer::{Answer, Keeping, Media, Status};
+use crate::answer::{Answer, CacheControl, Media, Status};
+use crate::cache_control::cache_control_of;
 use crate::choice::{is_of, is_url};
 use crate::codes::{
     HANDLE_NOT_FOUND, INVALID_HANDLE, OPERATION_DENIED, SERVICE_REFERRAL, TOO_FAR, VALUE_NOT_FOUND,
 };
-use crate::keeping::keeping_of;
 use crate::link::Link;
 use crate::note::Note;
 use crate::page::Page;
@@ -50,9 +50,14 @@ const END: &str = "</tbody>
 ";
 
 /// A page with this title.
-pub(crate) fn page_answer(status: Status, keeping: Keeping, title: Vec<u8>, page: Page) -> Answer
+pub(crate) fn page_answer(
+    status: Status,
+    cache_control: CacheControl,
+    title: Vec<u8>,
+    page: Page,
+) -> Answer
     ensures told { Tells status Media.Page result }
-    ensures kept { result.keeping ≡ keeping }
+    ensures kept { result.cache_control ≡ cache_control }
     ensures title { result.title ≡ title }
     ensures body { result.body ≡ page.octets }
 {
@@ -60,7 +65,7 @@ pub(crate) fn page_answer(status: Status, keeping: Keeping, title: Vec<u8>, page
         status,
         location: None,
         media: Media::Page,
-        keeping,
+        cache_control,
         tag: None,
         about: None,
         title,
@@ -167,7 +172,7 @@ pub(crate) fn missing_page(
     meant: Option<&Name>,
 ) -> Result<Answer, AllocError>
     ensures told { IfOk result (Tells Status.NotFound Media.Page) }
-    ensures kept { IfOk result (λ a. a.keeping ≡ Keeping.Never) }
+    ensures kept { IfOk result (λ a. a.cache_control ≡ CacheControl.Never) }
     ensures title { IfOk result (λ a. a.title.items ≡ refusal_title HANDLE_NOT_FOUND asked.now) }
     ensures body { IfOk result (λ a. a.body.items ≡ missing_page asked.now (option_copied meant.entry)) }
 {
@@ -176,7 +181,7 @@ pub(crate) fn missing_page(
     put_name(&mut page, asked)?;
     put_meant(&mut page, meant)?;
     put_advice(&mut page, HANDLE_NOT_FOUND, asked)?;
-    Ok(page_answer(Status::NotFound, Keeping::Never, title, page))
+    Ok(page_answer(Status::NotFound, CacheControl::Never, title, page))
 }
 
 /// A page that says why there are no values: why not, what was asked, and what to do.
@@ -189,7 +194,7 @@ pub(crate) fn refusal(
     why: &str,
 ) -> Result<Answer, AllocError>
     ensures told { IfOk result (Tells status Media.Page) }
-    ensures kept { IfOk result (λ a. a.keeping ≡ Keeping.Never) }
+    ensures kept { IfOk result (λ a. a.cache_control ≡ CacheControl.Never) }
     ensures title { IfOk result (λ a. a.title.items ≡ refusal_title code asked.now) }
     ensures body { IfOk result (λ a. a.body.items ≡ refusal_page asked.now code why.now) }
 {
@@ -197,7 +202,7 @@ pub(crate) fn refusal(
     let mut page = Page::new(alloc, why.as_bytes())?;
     put_name(&mut page, asked)?;
     put_advice(&mut page, code, asked)?;
-    Ok(page_answer(status, Keeping::Never, title, page))
+    Ok(page_answer(status, CacheControl::Never, title, page))
 }
 
 /// What this is, and a form.
@@ -215,7 +220,7 @@ pub(crate) fn front(alloc: Global) -> Result<Answer, AllocError>
 <p><small>An address that ends in <code>?noredirect</code>, such as <code>/10/a?noredirect</code>, shows the values of its handle. <code>/api/handles/10/a</code> gives them as JSON.</small></p>
 ",
     )?;
-    Ok(page_answer(Status::Success, Keeping::Seconds(0), title, page))
+    Ok(page_answer(Status::Success, CacheControl::Seconds(0), title, page))
 }
 
 #[tactic(auto, unfolding(crate::specs::Pages::redirect_page))]
@@ -236,10 +241,10 @@ pub(crate) fn redirect(
     alloc: Global,
     title: &[u8],
     to: Link,
-    keeping: Keeping,
+    cache_control: CacheControl,
 ) -> Result<Answer, AllocError>
     ensures leads { IfOk result (LeadsTo title.now to) }
-    ensures kept { IfOk result (λ a. a.keeping ≡ keeping) }
+    ensures kept { IfOk result (λ a. a.cache_control ≡ cache_control) }
     ensures located { IfOk result IsLocated }
 {
     let mut page = Page::empty(alloc);
@@ -247,8 +252,8 @@ pub(crate) fn redirect(
     Ok(Answer {
         status: Status::Found,
         location: Some(to.into_text()),
-        media: Media::Way,
-        keeping,
+        media: Media::Redirect,
+        cache_control,
         tag: None,
         about: None,
         title: Vec::new(alloc),
@@ -474,7 +479,7 @@ pub(crate) fn values_page(
     values: &[Value],
 ) -> Result<Answer, AllocError>
     ensures told { IfOk result (Tells Status.Success Media.Page) }
-    ensures kept { IfOk result (λ a. IsKeepingOf values.now a.keeping) }
+    ensures kept { IfOk result (λ a. IsCacheControlOf values.now a.cache_control) }
     ensures about { IfOk result (λ a. option_map string_bytes a.about ≡ Some (name_in_address name.now)) }
     ensures title { IfOk result (λ a. a.title.items ≡ name.now) }
     ensures body { IfOk result (λ a. IsPageOf name.now note values.now a.body.items) }
@@ -486,7 +491,7 @@ pub(crate) fn values_page(
     page.markup(ANOTHER)?;
     put_json_link(&mut page, name)?;
     let about = name_in_address(alloc, name.sent())?;
-    let answer = page_answer(Status::Success, keeping_of(values), title, page);
+    let answer = page_answer(Status::Success, cache_control_of(values), title, page);
     Ok(Answer {
         about: Some(about),
         ..answer
@@ -536,7 +541,7 @@ pub(crate) fn gone_page(
     let title = gone_title(alloc, name.sent())?;
     let page = gone_body(alloc, name, gone)?;
     let about = name_in_address(alloc, name.sent())?;
-    let answer = page_answer(Status::Gone, keeping_of(values), title, page);
+    let answer = page_answer(Status::Gone, cache_control_of(values), title, page);
     Ok(Answer {
         about: Some(about),
         ..answer

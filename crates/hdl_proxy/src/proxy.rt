@@ -2,18 +2,18 @@
 
 ghost use Rattle.std.specs.Prelude.{◌≡◌, ◌≢◌, IfOk, codes, option_copied, string_bytes};
 ghost use Rattle.hdl_proxy.specs.Answer.{Answers, Follows, Goes, IsLocated, Refuses, ShowsFound, ShowsValues, is_json};
-ghost use Rattle.hdl_proxy.specs.Begin.{AsksAddress, AsksFor, IsAnswered, IsBare, IsFile, IsFront, IsLocatedIfAnswered, IsNoHandle, IsOfFile, IsOfHandle, IsOwn, IsReading, LeadsFromPasted, LeadsToName, RefusesMethod, RefusesMethodIn, RefusesRequest, asked_text, fault_sentence, first_keeping, follows_aliases, is_called_back, json_form, page_form, without_slash};
+ghost use Rattle.hdl_proxy.specs.Begin.{AsksAddress, AsksFor, IsAnswered, IsBare, IsFile, IsFront, IsLocatedIfAnswered, IsNoHandle, IsOfFile, IsOfHandle, IsOwn, IsReading, LeadsFromPasted, LeadsToName, RefusesMethod, RefusesMethodIn, RefusesRequest, asked_text, fault_sentence, first_cache_control, follows_aliases, is_called_back, json_form, page_form, without_slash};
 ghost use Rattle.hdl_proxy.specs.Query.{pairs_of, texts_of};
 ghost use Rattle.hdl_proxy.specs.Status.{refused_words};
 
-use crate::answer::{Answer, Keeping, Media, Status, told_code};
+use crate::answer::{Answer, CacheControl, Media, Status, reported_code};
+use crate::cache_control::{DAY_SECONDS, cache_control_of};
 use crate::choice::first_gone;
 use crate::codes::{
     HANDLE_NOT_FOUND, INVALID_HANDLE, OPERATION_DENIED, SERVER_BUSY, SERVICE_REFERRAL,
     VALUE_NOT_FOUND,
 };
 use crate::found::{Found, read_answer};
-use crate::keeping::{DAY, keeping_of};
 use crate::link::Link;
 use crate::names::{decode, read_name, unescape};
 use crate::note::Note;
@@ -21,9 +21,9 @@ use crate::pasted::{between_spaces, name_within, pasted_name};
 use crate::query::{
     Pair, has_pair, indexes_of, last_named, location_asked, read_pairs, text_to_append, types_of,
 };
-use crate::question::{Form, Question};
+use crate::question::{AnswerFormat, Question};
+use crate::redirect_choice::{RedirectChoice, RedirectRequest, redirect_from};
 use crate::resolver::NoAnswer;
-use crate::way::{Way, Wish, way_from};
 use crate::{files, json, pages};
 use hdl_msg::ResponseCode;
 use hdl_name::{Name, NameFault};
@@ -76,11 +76,11 @@ fn lead(alloc: Global, sent: &[u8]) -> Result<Answer, AllocError>
     match read_name(alloc, sent)? {
         Ok(name) => {
             let to = Link::of_name(alloc, &name)?;
-            pages::redirect(alloc, name.sent(), to, Keeping::Never)
+            pages::redirect(alloc, name.sent(), to, CacheControl::Never)
         }
         Err(fault) => {
             let why = fault_sentence(fault);
-            bad_request(alloc, sent, Form::Page, why)
+            bad_request(alloc, sent, AnswerFormat::Page, why)
         }
     }
 }
@@ -98,7 +98,12 @@ fn fault_sentence(fault: NameFault) -> &'static str
     }
 }
 
-fn bad_request(alloc: Global, asked: &[u8], form: Form, why: &str) -> Result<Answer, AllocError>
+fn bad_request(
+    alloc: Global,
+    asked: &[u8],
+    form: AnswerFormat,
+    why: &str,
+) -> Result<Answer, AllocError>
     ensures refuses { IfOk result (Refuses Status.BadRequest form asked.now INVALID_HANDLE why.now) }
     ensures located { IfOk result IsLocated }
 {
@@ -117,7 +122,13 @@ fn asked_text<'a>(octets: &'a [u8], sent: &'a str) -> &'a [u8]
 }
 
 /// The refusal of a request for this name, which stands so in the address.
-fn refuse(alloc: Global, form: Form, name: &[u8], sent: &str, why: &str) -> Result<Next, AllocError>
+fn refuse(
+    alloc: Global,
+    form: AnswerFormat,
+    name: &[u8],
+    sent: &str,
+    why: &str,
+) -> Result<Next, AllocError>
     ensures refuses { IfOk result (IsAnswered (RefusesRequest form name.now sent.now why.now)) }
     ensures located { IfOk result IsLocatedIfAnswered }
 {
@@ -126,34 +137,34 @@ fn refuse(alloc: Global, form: Form, name: &[u8], sent: &str, why: &str) -> Resu
 }
 
 /// Whether the form is JSON.
-pub(crate) fn is_json(form: Form) -> bool
+pub(crate) fn is_json(form: AnswerFormat) -> bool
     ensures { result ≡ is_json form }
 {
-    matches!(form, Form::Json | Form::Pretty)
+    matches!(form, AnswerFormat::Json | AnswerFormat::Pretty)
 }
 
 /// Whether JSON is asked for as a call of a function, as a page's script had to before `Access-Control-Allow-Origin`.
-fn is_called_back(form: Form, pairs: &[Pair]) -> bool
+fn is_called_back(form: AnswerFormat, pairs: &[Pair]) -> bool
     ensures { result ≡ is_called_back form (texts_of pairs.now) }
 {
     is_json(form) && has_pair(pairs, "callback")
 }
 
 /// Whether aliases are followed: where a URL is, unless the query says that they are not.
-fn follows_aliases(form: Form, pairs: &[Pair]) -> bool
+fn follows_aliases(form: AnswerFormat, pairs: &[Pair]) -> bool
     ensures { result ≡ follows_aliases form (texts_of pairs.now) }
 {
-    matches!(form, Form::Follow) && !has_pair(pairs, "ignore_aliases")
+    matches!(form, AnswerFormat::Follow) && !has_pair(pairs, "ignore_aliases")
 }
 
 /// How long others may keep what is answered at most: where a server is to be asked in any case, not without asking again.
-fn first_keeping(pairs: &[Pair]) -> Keeping
-    ensures { result ≡ first_keeping (texts_of pairs.now) }
+fn first_cache_control(pairs: &[Pair]) -> CacheControl
+    ensures { result ≡ first_cache_control (texts_of pairs.now) }
 {
     if has_pair(pairs, "auth") {
-        Keeping::Seconds(0)
+        CacheControl::Seconds(0)
     } else {
-        Keeping::Seconds(DAY)
+        CacheControl::Seconds(DAY_SECONDS)
     }
 }
 
@@ -162,7 +173,7 @@ fn begin_handle(
     alloc: Global,
     sent: &str,
     octets: &[u8],
-    form: Form,
+    form: AnswerFormat,
     pairs: &[Pair],
 ) -> Result<Next, AllocError>
     ensures asks { IfOk result (AsksFor sent.now octets.now form (texts_of pairs.now)) }
@@ -190,7 +201,7 @@ fn begin_handle(
             aliases: follows_aliases(form, pairs),
             passed: Vec::new(alloc),
             tried: Vec::new(alloc),
-            keeping: first_keeping(pairs),
+            cache_control: first_cache_control(pairs),
             anew: has_pair(pairs, "auth"),
         })),
         Err(fault) => {
@@ -201,23 +212,23 @@ fn begin_handle(
 }
 
 /// The form of an address for browsers: a page of its values, or the way.
-fn page_form(pairs: &[Pair]) -> Form
+fn page_form(pairs: &[Pair]) -> AnswerFormat
     ensures { result ≡ page_form (texts_of pairs.now) }
 {
     if has_pair(pairs, "noredirect") {
-        Form::Page
+        AnswerFormat::Page
     } else {
-        Form::Follow
+        AnswerFormat::Follow
     }
 }
 
-fn json_form(pairs: &[Pair]) -> Form
+fn json_form(pairs: &[Pair]) -> AnswerFormat
     ensures { result ≡ json_form (texts_of pairs.now) }
 {
     if has_pair(pairs, "pretty") {
-        Form::Pretty
+        AnswerFormat::Pretty
     } else {
-        Form::Json
+        AnswerFormat::Json
     }
 }
 
@@ -233,7 +244,7 @@ fn without_slash(path: &str) -> &str
 /// The answer that refuses what is asked at this path.
 fn refuse_path(
     alloc: Global,
-    form: Form,
+    form: AnswerFormat,
     path: &str,
     status: Status,
     why: &str,
@@ -251,10 +262,10 @@ fn no_handle(alloc: Global, path: &str) -> Result<Answer, AllocError>
 {
     if path == LIST_PATH {
         let why = "This proxy lists no handles, since it accepts no keys.";
-        return refuse_path(alloc, Form::Json, path, Status::Forbidden, why);
+        return refuse_path(alloc, AnswerFormat::Json, path, Status::Forbidden, why);
     }
     let why = "There is nothing at this address. A handle is at /api/handles/HANDLE.";
-    refuse_path(alloc, Form::Json, path, Status::NotFound, why)
+    refuse_path(alloc, AnswerFormat::Json, path, Status::NotFound, why)
 }
 
 /// The question of an address that is neither the front page nor a file.
@@ -278,7 +289,7 @@ fn begin_address(alloc: Global, path: &str, query: &str) -> Result<Next, AllocEr
 }
 
 /// The answer to a handle that is asked for by another method.
-fn refuse_method(alloc: Global, form: Form, path: &str) -> Result<Answer, AllocError>
+fn refuse_method(alloc: Global, form: AnswerFormat, path: &str) -> Result<Answer, AllocError>
     ensures refuses { IfOk result (RefusesMethodIn form path.now) }
     ensures located { IfOk result IsLocated }
 {
@@ -292,12 +303,12 @@ fn begin_other(alloc: Global, method: &str, path: &str) -> Result<Answer, AllocE
     ensures located { IfOk result IsLocated }
 {
     if !path.starts_with(API_PATH) {
-        return refuse_method(alloc, Form::Page, path);
+        return refuse_method(alloc, AnswerFormat::Page, path);
     }
     if method == "OPTIONS" {
         return Ok(options(alloc));
     }
-    refuse_method(alloc, Form::Json, path)
+    refuse_method(alloc, AnswerFormat::Json, path)
 }
 
 /// The answer to a browser that asks whether another page may send such a request: nothing but the fields of the answer.
@@ -308,7 +319,7 @@ pub fn options(alloc: Global) -> Answer
         alloc,
         Status::NoContent,
         Media::Json,
-        Keeping::Never,
+        CacheControl::Never,
         Vec::new(alloc),
     )
 }
@@ -356,12 +367,17 @@ fn refused_words(code: u32) -> &'static str
 }
 
 /// The way, or where there is none the values and what is wrong.
-fn go(alloc: Global, name: &Name, way: Way, values: &[Value]) -> Result<Answer, AllocError>
+fn go(
+    alloc: Global,
+    name: &Name,
+    way: RedirectChoice,
+    values: &[Value],
+) -> Result<Answer, AllocError>
     ensures { IfOk result (Goes name.now values.now way.to way.wrong) }
 {
-    let Way { to, wrong } = way;
+    let RedirectChoice { to, wrong } = way;
     match to {
-        Some(link) => pages::redirect(alloc, name.sent(), link, keeping_of(values)),
+        Some(link) => pages::redirect(alloc, name.sent(), link, cache_control_of(values)),
         None => pages::values_page(alloc, name, wrong, values),
     }
 }
@@ -370,39 +386,49 @@ fn go(alloc: Global, name: &Name, way: Way, values: &[Value]) -> Result<Answer, 
 fn lead_on(
     alloc: Global,
     name: &Name,
-    wish: &Wish<'_>,
+    wish: &RedirectRequest<'_>,
     values: &[Value],
 ) -> Result<Answer, AllocError>
     ensures { IfOk result (Follows name.now wish.now.append.now wish.now.locatt.now values.now) }
 {
-    let way = way_from(alloc, values, wish)?;
+    let way = redirect_from(alloc, values, wish)?;
     go(alloc, name, way, values)
 }
 
 fn answer_values(
     alloc: Global,
     name: &Name,
-    form: Form,
-    wish: &Wish<'_>,
+    form: AnswerFormat,
+    wish: &RedirectRequest<'_>,
     values: &[Value],
 ) -> Result<Answer, AllocError>
     ensures { IfOk result (ShowsValues form name.now wish.now.append.now wish.now.locatt.now values.now) }
 {
     match form {
-        Form::Follow => match first_gone(values) {
+        AnswerFormat::Follow => match first_gone(values) {
             Some(gone) => pages::gone_page(alloc, name, gone, values),
             None => lead_on(alloc, name, wish, values),
         },
-        Form::Page => pages::values_page(alloc, name, Note::Nothing, values),
-        Form::Json => json::values_answer(alloc, name.sent(), values, keeping_of(values)),
-        Form::Pretty => json::pretty_answer(alloc, name.sent(), values, keeping_of(values)),
+        AnswerFormat::Page => pages::values_page(alloc, name, Note::Nothing, values),
+        AnswerFormat::Json => json::values_answer(
+            alloc,
+            name.sent(),
+            values,
+            cache_control_of(values),
+        ),
+        AnswerFormat::Pretty => json::pretty_answer(
+            alloc,
+            name.sent(),
+            values,
+            cache_control_of(values),
+        ),
     }
 }
 
 /// The answer without values of this handle, by code and reason.
 fn refusal_of(
     alloc: Global,
-    form: Form,
+    form: AnswerFormat,
     handle: &[u8],
     status: Status,
     code: u32,
@@ -411,8 +437,12 @@ fn refusal_of(
     ensures { IfOk result (Refuses status form handle.now code why.now) }
 {
     match form {
-        Form::Json | Form::Pretty => json::refusal(alloc, status, handle, code, why),
-        Form::Follow | Form::Page => pages::refusal(alloc, status, handle, code, why),
+        AnswerFormat::Json | AnswerFormat::Pretty => json::refusal(
+            alloc, status, handle, code, why,
+        ),
+        AnswerFormat::Follow | AnswerFormat::Page => pages::refusal(
+            alloc, status, handle, code, why,
+        ),
     }
 }
 
@@ -429,7 +459,7 @@ pub(crate) fn answer_found(
     let handle = question.name.sent();
     match found {
         Found::Values(values) => {
-            let wish = Wish {
+            let wish = RedirectRequest {
                 append: &question.append,
                 locatt: &question.locatt,
                 chance,
@@ -438,7 +468,7 @@ pub(crate) fn answer_found(
         }
         Found::Refused(code) => {
             let status = Status::of_code(*code);
-            let told = told_code(*code);
+            let told = reported_code(*code);
             refusal_of(alloc, form, handle, status, told, refused_words(*code))
         }
         Found::Nothing => {

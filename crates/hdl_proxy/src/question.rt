@@ -9,7 +9,7 @@ ghost use Rattle.hdl_value.specs.declared.wire.Wire.TheVariants.{Profile};
 ghost use Rattle.hdl_msg.specs.declared.codes.OpFlag.TheVariants.{PublicOnly};
 ghost use Rattle.hdl_proxy.specs.Question.{AsksInPublic, IsPublicRequest, IsTooLong};
 
-use crate::answer::Keeping;
+use crate::answer::CacheControl;
 use hdl_limits::{Items, MESSAGE_MAX, Octets};
 use hdl_msg::{Header, OpCode, OpFlag, RequestBody, request_len, write_request};
 use hdl_name::Name;
@@ -18,7 +18,7 @@ use std::alloc::{AllocError, Global};
 
 /// In which form a handle is answered.
 #[derive(Clone, Copy, PartialEq, Eq)]
-pub enum Form {
+pub enum AnswerFormat {
     /// Its URL is followed, if it has one.
     Follow,
     /// A page of its values.
@@ -34,7 +34,7 @@ pub enum Form {
 #[derive(Drop)]
 pub struct Question {
     pub name: Name,
-    pub form: Form,
+    pub form: AnswerFormat,
     pub indexes: Vec<u32>,
     pub types: Vec<Octets>,
     /// What is appended to the URL that is followed.
@@ -48,7 +48,7 @@ pub struct Question {
     /// The handles that aren't there by whose names this one may be meant, the one that was asked for first.
     pub tried: Vec<Name>,
     /// How long the answers on the way here may be cached.
-    pub keeping: Keeping,
+    pub cache_control: CacheControl,
     /// Whether a server is asked even where a reply is kept.
     pub anew: bool,
 }

@@ -1,9 +1,9 @@
 //! What all pages of a site have: its name, its style, the contact, and the address at which they are cited.
 
 ghost use Rattle.std.specs.Prelude.{◌≡◌, ◌++◌, IfOk, OnOk, option_copied, option_map, string_bytes};
-ghost use Rattle.hdl_proxy.specs.Site.{IsAddressIn, IsBound, IsContactIn, IsContactOf, IsContactWay, IsDressed, IsSiteOf, about_part, address_part, contact_part, foot, front_part, page_of, redirect_keeping, whole_address};
+ghost use Rattle.hdl_proxy.specs.Site.{IsAddressIn, IsBound, IsContactIn, IsContactOf, IsContactWay, IsDressed, IsSiteOf, about_part, address_part, contact_part, foot, front_part, page_of, redirect_cache_control, whole_address};
 
-use crate::answer::{Answer, Keeping, Media};
+use crate::answer::{Answer, CacheControl, Media};
 use crate::link::Link;
 use crate::page::Page;
 use crate::step::within;
@@ -260,12 +260,12 @@ impl Site {
     }
 
     /// How long browsers keep a redirect at most.
-    fn redirect_keeping(&self) -> Keeping
-        ensures { result ≡ redirect_keeping self.now.redirects }
+    fn redirect_cache_control(&self) -> CacheControl
+        ensures { result ≡ redirect_cache_control self.now.redirects }
     {
         match self.redirects {
-            0 => Keeping::Never,
-            seconds => Keeping::Seconds(seconds),
+            0 => CacheControl::Never,
+            seconds => CacheControl::Seconds(seconds),
         }
     }
 
@@ -276,7 +276,7 @@ impl Site {
         if answer.location.is_none() {
             return answer;
         }
-        within(self.redirect_keeping(), answer)
+        within(self.redirect_cache_control(), answer)
     }
 
     /// The whole page of this main part, at this address.

@@ -6,17 +6,17 @@ ghost use Rattle.hdl_proxy.specs.Answer.{IsLocated};
 ghost use Rattle.hdl_proxy.specs.Step.{Ends, EndsAt, Hops, IsNamed, IsOfAlias, IsStep, IsWithin, LeadsNowhere, Settles, TriesNext, first_of, is_missing, is_there, may_try, meant_in};
 
 use crate::alias::{Hop, hop_in, is_among, way_words};
-use crate::answer::{Answer, Keeping, Media, Status};
+use crate::answer::{Answer, CacheControl, Media, Status};
+use crate::cache_control::sooner;
 use crate::codes::{HANDLE_NOT_FOUND, TOO_FAR, VALUE_NOT_FOUND};
 use crate::found::{Found, read_answer};
 use crate::guess::guess_after;
 use crate::hops::{nowhere_page, put_alias};
 use crate::json::refusal;
-use crate::keeping::sooner;
 use crate::page::Page;
 use crate::pages::missing_page;
 use crate::proxy::{Next, answer_found, is_json};
-use crate::question::{Form, Question};
+use crate::question::{AnswerFormat, Question};
 use crate::resolver::NoAnswer;
 use hdl_name::Name;
 use std::alloc::{AllocError, Global};
@@ -32,11 +32,11 @@ const CIRCLE: &str = "Its aliases lead in a circle:";
 const BEYOND: &str = "Its aliases lead on beyond ten handles:";
 
 /// The same answer, which others may keep no longer than this.
-pub(crate) fn within(keeping: Keeping, answer: Answer) -> Answer
-    ensures { IsWithin keeping answer result }
+pub(crate) fn within(cache_control: CacheControl, answer: Answer) -> Answer
+    ensures { IsWithin cache_control answer result }
 {
     Answer {
-        keeping: sooner(keeping, answer.keeping),
+        cache_control: sooner(cache_control, answer.cache_control),
         ..answer
     }
 }
@@ -78,7 +78,7 @@ fn end(alloc: Global, question: &Question, found: &Found, chance: u64) -> Result
     ensures located { IfOk result IsLocated }
 {
     let answer = answer_found(alloc, question, found, chance)?;
-    let kept = within(question.keeping, answer);
+    let kept = within(question.cache_control, answer);
     with_asked_name(alloc, question.passed.first(), kept)
 }
 
@@ -95,7 +95,7 @@ fn first_of(names: &[Name]) -> &[u8]
 /// The answer if the aliases of these handles lead nowhere, the last of them to this one.
 fn nowhere(
     alloc: Global,
-    form: Form,
+    form: AnswerFormat,
     front: &str,
     asked: &[Name],
     target: &Name,
@@ -104,11 +104,13 @@ fn nowhere(
 {
     let handle = first_of(asked);
     match form {
-        Form::Json | Form::Pretty => {
+        AnswerFormat::Json | AnswerFormat::Pretty => {
             let why = way_words(alloc, front, asked, target)?;
             refusal(alloc, Status::NotFound, handle, TOO_FAR, why.as_str())
         }
-        Form::Follow | Form::Page => nowhere_page(alloc, handle, front, asked, target),
+        AnswerFormat::Follow | AnswerFormat::Page => nowhere_page(
+            alloc, handle, front, asked, target,
+        ),
     }
 }
 
@@ -123,7 +125,7 @@ fn follow(alloc: Global, question: Question, hop: Hop) -> Result<Next, AllocErro
         locatt,
         aliases,
         passed,
-        keeping,
+        cache_control,
         anew,
         ..
     } = question;
@@ -148,7 +150,7 @@ fn follow(alloc: Global, question: Question, hop: Hop) -> Result<Next, AllocErro
         aliases,
         passed: asked,
         tried: Vec::new(alloc),
-        keeping: sooner(keeping, hop.keeping),
+        cache_control: sooner(cache_control, hop.cache_control),
         anew,
     }))
 }
@@ -186,7 +188,7 @@ fn try_next(alloc: Global, question: Question) -> Result<Next, AllocError>
     match guess_after(alloc, &tried, first_of(&tried))? {
         Some(name) => Ok(Next::Ask(Question {
             name,
-            form: Form::Page,
+            form: AnswerFormat::Page,
             indexes: Vec::new(alloc),
             types: Vec::new(alloc),
             append: Vec::new(alloc),
@@ -194,7 +196,7 @@ fn try_next(alloc: Global, question: Question) -> Result<Next, AllocError>
             aliases: false,
             passed: Vec::new(alloc),
             tried,
-            keeping: Keeping::Never,
+            cache_control: CacheControl::Never,
             anew: question.anew,
         })),
         None => Ok(Next::Answer(missing_page(alloc, first_of(&tried), None)?)),

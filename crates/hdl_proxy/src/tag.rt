@@ -3,7 +3,7 @@
 ghost use Rattle.std.specs.Prelude.{◌≡◌, ◌↔◌, IfOk, IsTrue, option_map, string_bytes};
 ghost use Rattle.hdl_proxy.specs.Tag.{Carries, IsNamedBy, IsNamedIn, IsTaggable, IsTagged, IsUnchanged, tag_of};
 
-use crate::answer::{Answer, Keeping, Status};
+use crate::answer::{Answer, CacheControl, Status};
 use sha2::{Digest, Sha256};
 use std::alloc::{AllocError, Global};
 
@@ -23,7 +23,7 @@ fn tag_of(alloc: Global, body: &[u8]) -> Result<String, AllocError>
 fn is_taggable(answer: &Answer) -> bool
     ensures { IsTrue result ↔ IsTaggable answer.now }
 {
-    answer.status == Status::Success && answer.keeping != Keeping::Never
+    answer.status == Status::Success && answer.cache_control != CacheControl::Never
 }
 
 /// Whether a field `If-None-Match` names the tag: it is `*`, or has the tag among others, weak or not. A tag has quotes at its ends and none

@@ -2,7 +2,7 @@
 
 ghost use Rattle.std.specs.Prelude.{◌≡◌, ◌+◌, ◌<◌, ◌++◌, IfOk, OnOk, option_map, string_bytes};
 ghost use Rattle.hdl_value.specs.Permission.{bits};
-ghost use Rattle.hdl_proxy.specs.Words.{day_of, permission_digits, value_digits, usual_permissions, IsMomentText, IsKeptFor, IsWritten};
+ghost use Rattle.hdl_proxy.specs.Words.{day_of, permission_digits, value_digits, usual_permissions, IsMomentText, IsCacheLifetime, IsWritten};
 
 use hdl_value::{AdminMask, HS_SECKEY, Value};
 use jiff_core::Timestamp;
@@ -98,22 +98,22 @@ pub(crate) fn day_of(moment: &[u8]) -> &[u8]
 
 /// How long a value may be kept (RFC 3651, section 3.1): for a number of seconds, or until a moment.
 #[derive(Drop)]
-pub enum KeptFor {
+pub enum CacheLifetime {
     Seconds(u32),
     Until(String),
 }
 
 /// How long a value may be kept: kind 1 is a moment, every other kind counts seconds.
-pub(crate) fn kept_for(alloc: Global, value: &Value) -> Result<KeptFor, AllocError>
-    ensures { IfOk result (IsKeptFor value.now) }
+pub(crate) fn cache_lifetime(alloc: Global, value: &Value) -> Result<CacheLifetime, AllocError>
+    ensures { IfOk result (IsCacheLifetime value.now) }
 {
     let [kind, a, b, c, d] = value.ttl;
     let seconds = u32::from_be_bytes([a, b, c, d]);
     if kind != 1 {
-        return Ok(KeptFor::Seconds(seconds));
+        return Ok(CacheLifetime::Seconds(seconds));
     }
     let Ok(moment) = Timestamp::from_nanosecond(i128::from(seconds) * 1_000_000_000) else {
         unreachable!()
     };
-    Ok(KeptFor::Until(moment_words(alloc, moment)?))
+    Ok(CacheLifetime::Until(moment_words(alloc, moment)?))
 }

@@ -10,7 +10,7 @@ use Rattle.hdl_value.specs.Place.{handle_cmp, same_handle}
 use Rattle.hdl_value.specs.declared.value.Value.{Value}
 use Rattle.hdl_rows.specs.Table.{Table, place, has, at, values_of, HaveTheirIndexes, with_new_handle, with_values, without_values, without_handle}
 use Rattle.hdl_rows.specs.Write.{Create, Add, Remove, Delete}
-use Rattle.hdl_rows.specs.Shelf.{entries_of, by_index, table_of, AreInOrder, put_all}
+use Rattle.hdl_rows.specs.RowStore.{entries_of, by_index, table_of, AreInOrder, put_all}
 use Rattle.hdl_rows.proofs.Writes.{put_at, removed_at}
 use Rattle.hdl_rows.proofs.ShelfLemmas.{to_T, found_sorted, indexes_kept, at-table, has-table, changed, within, values_there, values_put, values_left, values_of-table}
 use Rattle.hdl_rows.proofs.RowsLemmas.{Entries, is_key, find-entries, entries-set, entries-same, put_in, taken_away}

@@ -10,7 +10,7 @@ use Rattle.hdl_value.specs.declared.value.Value.{Value}
 use Rattle.hdl_value.proofs.Places.{handle_total, handles_equal, handle_itself}
 use Rattle.hdl_rows.specs.Table.{Table, no_rows, has, names_of, with_new_handle, without_handle}
 use Rattle.hdl_rows.specs.Write.{Create, Delete}
-use Rattle.hdl_rows.specs.Shelf.{entries_of, table_of, AreInOrder, HasAuthority, HaveAuthorities}
+use Rattle.hdl_rows.specs.RowStore.{entries_of, table_of, AreInOrder, HasAuthority, HaveAuthorities}
 use Rattle.hdl_rows.proofs.Writes.{has-after_write}
 use Rattle.hdl_rows.proofs.ShelfLemmas.{names_of-table}
 use Rattle.hdl_rows.proofs.RowsLemmas.{Entries}

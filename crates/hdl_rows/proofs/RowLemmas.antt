@@ -11,7 +11,7 @@ use Rattle.std.proofs.lemmas.List.{get_or_default}
 use Rattle.std.proofs.lemmas.List.Sums.{prefix_len-le-length, prefix_len_is}
 use Rattle.std.proofs.lemmas.List.Sorted.{IsPartitionedBy-ltb}
 use Rattle.hdl_value.specs.declared.value.Value.{Value}
-use Rattle.hdl_rows.specs.Shelf.{by_index, put_all}
+use Rattle.hdl_rows.specs.RowStore.{by_index, put_all}
 use Rattle.hdl_rows.proofs.ShelfLemmas.{to_T, first, second, less}
 
 above : (i j : ℕ) → ltb j i ≡ true → nat_cmp i j ≡ Greater

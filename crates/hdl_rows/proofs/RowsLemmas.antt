@@ -10,7 +10,7 @@ use Rattle.std.specs.FinMap.Entries.{by_order, where_key, below_all, find-put, i
 use Rattle.hdl_value.specs.Place.{handle_cmp, same_handle}
 use Rattle.hdl_value.specs.declared.value.Value.{Value}
 use Rattle.hdl_value.proofs.Places.{handle_total, handle_antisymmetric, tied}
-use Rattle.hdl_rows.specs.Shelf.{entry_of, entries_of, by_index, AreInOrder}
+use Rattle.hdl_rows.specs.RowStore.{entry_of, entries_of, by_index, AreInOrder}
 use Rattle.hdl_rows.proofs.Writes.{some_none}
 use Rattle.hdl_rows.proofs.ShelfLemmas.{to_T, holds, first, second, less}
 

@@ -14,7 +14,7 @@ use Rattle.hdl_value.specs.declared.value.Value.{Value}
 use Rattle.hdl_value.proofs.Places.{handle_total, handle_antisymmetric, place_total, place_antisymmetric, tied, handles_equal, handle_itself}
 use Rattle.hdl_rows.specs.Table.{place, has, at, values_of, names_of, value_with, HaveTheirIndexes, key}
 use Rattle.hdl_rows.specs.Write.{Write, handle_of, after_write}
-use Rattle.hdl_rows.specs.Shelf.{by_index, by_place, table_of, AreInOrder, put_all}
+use Rattle.hdl_rows.specs.RowStore.{by_index, by_place, table_of, AreInOrder, put_all}
 use Rattle.hdl_rows.proofs.Writes.{same_look_ups_lem, at-after_write, has-after_write, at_place, put_at, removed_at, at_after, has_after, some_none, apart}
 
 pub index_test : (i j : ℕ) → is_eq (nat_cmp i j) ≡ (j == i)

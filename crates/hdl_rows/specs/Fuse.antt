@@ -1,23 +1,23 @@
 -- Which calls a fuse refuses.
 use Rattle.std.specs.Prelude.{◌≡◌, ℕ, ◌+◌, min, Bool, true, false, ◌&&◌, nat_le, if◌then◌else◌, Result, IsErr}
 use Rattle.hdl_rows.specs.Table.{most, refusals_after}
-use Rattle.hdl_rows.specs.declared.fuse.Wire.{Wire}
+use Rattle.hdl_rows.specs.declared.fuse.FuseWire.{FuseWire}
 use Rattle.hdl_rows.specs.declared.fuse.Fuse.{Fuse}
 
 -- the number of the next call, counted from 1 up to the greatest
-abbrev pub next_call : Wire → ℕ
+abbrev pub next_call : FuseWire → ℕ
 next_call w = min (w.calls + 1) most
 
 -- the next call is one of those that are refused
-abbrev pub is_blown : Wire → Bool
+abbrev pub is_blown : FuseWire → Bool
 is_blown w = nat_le w.first (next_call w) && nat_le (next_call w) w.last
 
 -- the wire after this call was counted, and its refusal if it was refused
-abbrev pub after_call : Wire → Wire
+abbrev pub after_call : FuseWire → FuseWire
 after_call w = record w { calls = next_call w; refusals = if is_blown w then min (w.refusals + 1) most else w.refusals }
 
 -- what a fuse has of its own, and the inner table
-abbrev pub wire_of : {R : Type 0} → Fuse R → Wire
+abbrev pub wire_of : {R : Type 0} → Fuse R → FuseWire
 wire_of fuse = fuse.wire
 
 abbrev pub inner_of : {R : Type 0} → Fuse R → R

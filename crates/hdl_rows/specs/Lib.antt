@@ -3,6 +3,6 @@ pub mod Write
 pub mod Debt
 pub mod Fuse
 pub mod Laws
-pub mod Shelf
+pub mod RowStore
 pub mod Reads
 pub mod Heads

@@ -15,18 +15,18 @@ use hdl_value::{Reference, Value};
 
 /// Which calls are refused, and how many came.
 #[derive(Clone, Copy, Drop)]
-struct Wire {
+struct FuseWire {
     first: u64,
     last: u64,
     calls: u64,
     refusals: u64,
 }
 
-impl Wire {
+impl FuseWire {
     ghost use Rattle.hdl_rows.specs.Fuse.{is_blown, after_call};
 
     /// Counts a call, and returns whether it is refused.
-    fn blows(&mut self) -> bool
+    fn count_call(&mut self) -> bool
         ensures refused { result ≡ is_blown self.old }
         ensures refusals_after { self.new ≡ after_call self.old }
     {
@@ -44,7 +44,7 @@ impl Wire {
 #[derive(Drop)]
 pub struct Fuse<R> {
     inner: R,
-    wire: Wire,
+    wire: FuseWire,
 }
 
 impl<R: Rows> Fuse<R> {
@@ -58,7 +58,7 @@ impl<R: Rows> Fuse<R> {
     {
         Fuse {
             inner,
-            wire: Wire {
+            wire: FuseWire {
                 first,
                 last,
                 calls: 0,
@@ -86,7 +86,7 @@ impl<R: Rows> Rows for Fuse<R> {
         ensures blown { Blows self.old self.new result }
         ensures passed { Passes R.refused self.old self.new result }
     {
-        if self.wire.blows() {
+        if self.wire.count_call() {
             return Err(Refused);
         }
         self.inner.exists(name)
@@ -101,7 +101,7 @@ impl<R: Rows> Rows for Fuse<R> {
         ensures blown { Blows self.old self.new result }
         ensures passed { Passes R.refused self.old self.new result }
     {
-        if self.wire.blows() {
+        if self.wire.count_call() {
             return Err(Refused);
         }
         self.inner.at(reference)
@@ -117,7 +117,7 @@ impl<R: Rows> Rows for Fuse<R> {
         ensures blown { Blows self.old self.new result }
         ensures passed { Passes R.refused self.old self.new result }
     {
-        if self.wire.blows() {
+        if self.wire.count_call() {
             return Err(Refused);
         }
         self.inner.values(name)
@@ -134,7 +134,7 @@ impl<R: Rows> Rows for Fuse<R> {
         ensures blown { Blows self.old self.new result }
         ensures passed { Passes R.refused self.old self.new result }
     {
-        if self.wire.blows() {
+        if self.wire.count_call() {
             return Err(Refused);
         }
         self.inner.look(name)
@@ -151,7 +151,7 @@ impl<R: Rows> Rows for Fuse<R> {
         ensures blown { Blows self.old self.new result }
         ensures passed { Passes R.refused self.old self.new result }
     {
-        if self.wire.blows() {
+        if self.wire.count_call() {
             return Err(Refused);
         }
         self.inner.heads(name)
@@ -166,7 +166,7 @@ impl<R: Rows> Rows for Fuse<R> {
         ensures blown { Blows self.old self.new result }
         ensures passed { Passes R.refused self.old self.new result }
     {
-        if self.wire.blows() {
+        if self.wire.count_call() {
             return Err(Refused);
         }
         self.inner.names(authority)
@@ -183,7 +183,7 @@ impl<R: Rows> Rows for Fuse<R> {
         ensures blown { Blows self.old self.new result }
         ensures passed { Passes R.refused self.old self.new result }
     {
-        if self.wire.blows() {
+        if self.wire.count_call() {
             return Err(Refused);
         }
         self.inner.create(name, values)
@@ -201,7 +201,7 @@ impl<R: Rows> Rows for Fuse<R> {
         ensures blown { Blows self.old self.new result }
         ensures passed { Passes R.refused self.old self.new result }
     {
-        if self.wire.blows() {
+        if self.wire.count_call() {
             return Err(Refused);
         }
         self.inner.add(name, values)
@@ -219,7 +219,7 @@ impl<R: Rows> Rows for Fuse<R> {
         ensures blown { Blows self.old self.new result }
         ensures passed { Passes R.refused self.old self.new result }
     {
-        if self.wire.blows() {
+        if self.wire.count_call() {
             return Err(Refused);
         }
         self.inner.modify(name, values)
@@ -237,7 +237,7 @@ impl<R: Rows> Rows for Fuse<R> {
         ensures blown { Blows self.old self.new result }
         ensures passed { Passes R.refused self.old self.new result }
     {
-        if self.wire.blows() {
+        if self.wire.count_call() {
             return Err(Refused);
         }
         self.inner.remove(name, indexes)
@@ -253,7 +253,7 @@ impl<R: Rows> Rows for Fuse<R> {
         ensures blown { Blows self.old self.new result }
         ensures passed { Passes R.refused self.old self.new result }
     {
-        if self.wire.blows() {
+        if self.wire.count_call() {
             return Err(Refused);
         }
         self.inner.delete(name)
@@ -281,7 +281,7 @@ impl<R: Owing> Owing for Fuse<R> {
         self.inner.owed()
     }
 
-    fn let_write(&mut self, may_write: bool) {
-        self.inner.let_write(may_write);
+    fn set_may_write(&mut self, may_write: bool) {
+        self.inner.set_may_write(may_write);
     }
 }

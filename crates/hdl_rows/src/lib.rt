@@ -43,11 +43,11 @@ mod owing;
 mod plain;
 pub mod reads;
 mod row;
+mod row_store;
 mod rows;
-mod shelf;
 
 pub use fuse::Fuse;
-pub use owing::{Owed, Owing, Prompt};
+pub use owing::{Owed, Owing, Synchronous};
 pub use plain::PlainRows;
 pub use row::value_with;
 pub use rows::{Refused, Rows};

@@ -34,7 +34,7 @@ pub trait Owing: Rows {
 
     /// Sets whether the calls that follow may hand a write over. If not, such a write is refused, and nothing is owed
     /// for it.
-    fn let_write(&mut self, may_write: bool)
+    fn set_may_write(&mut self, may_write: bool)
         ensures unchanged { Self.content self.new ≡ Self.content self.old }
         ensures count { Self.refused self.new ≡ Self.refused self.old }
         ensures reads { Self.reads self.new ≡ Self.reads self.old }
@@ -42,9 +42,9 @@ pub trait Owing: Rows {
 }
 
 /// A table whose calls make their writes themselves. It never owes one.
-pub trait Prompt: Rows {}
+pub trait Synchronous: Rows {}
 
-impl Prompt for PlainRows {}
+impl Synchronous for PlainRows {}
 
 impl Owing for PlainRows {
     ghost debt = { λ _. nothing };
@@ -57,5 +57,5 @@ impl Owing for PlainRows {
         Owed::Nothing
     }
 
-    fn let_write(&mut self, _may_write: bool) {}
+    fn set_may_write(&mut self, _may_write: bool) {}
 }

@@ -4,8 +4,8 @@ ghost use Rattle.std.specs.Prelude.{◌≡◌, MatchResult, IsErr, Ok, IfOk, opt
 ghost use Rattle.hdl_rows.specs.Table.{no_rows, refusals_after};
 
 use crate::reads::{found_octets, names_octets, seen_octets, values_octets, with_call};
+use crate::row_store::RowStore;
 use crate::rows::{Refused, Rows};
-use crate::shelf::Shelf;
 use hdl_limits::Octets;
 use hdl_name::Name;
 use hdl_value::{Reference, Value};
@@ -17,22 +17,22 @@ use std::marker::Model;
 #[derive(Drop)]
 pub struct PlainRows {
     alloc: Global,
-    shelf: Shelf,
+    row_store: RowStore,
     refusals: u64,
     reads: u64,
 }
 
 impl Model for PlainRows {
     ghost use Rattle.hdl_rows.specs.Table.{Held, held_code};
-    ghost use Rattle.hdl_rows.specs.Shelf.{HaveAuthorities};
+    ghost use Rattle.hdl_rows.specs.RowStore.{HaveAuthorities};
 
     ghost Value = { Held };
 
     ghost coded = { held_code };
 
-    ghost view = { λ s. record { table = s.shelf; refused = s.refusals; reads = s.reads } };
+    ghost view = { λ s. record { table = s.row_store; refused = s.refusals; reads = s.reads } };
 
-    ghost invariant = { λ s. HaveAuthorities s.shelf };
+    ghost invariant = { λ s. HaveAuthorities s.row_store };
 }
 
 impl PlainRows {
@@ -42,7 +42,7 @@ impl PlainRows {
     {
         PlainRows {
             alloc,
-            shelf: Shelf::new(alloc),
+            row_store: RowStore::new(alloc),
             refusals: 0,
             reads: 0,
         }
@@ -82,11 +82,13 @@ impl Rows for PlainRows {
 
     fn exists(&mut self, name: &Name) -> Result<bool, Refused> {
         self.reads = with_call(self.reads, 0);
-        Ok(self.shelf.has(name.canon()))
+        Ok(self.row_store.has(name.canon()))
     }
 
     fn at(&mut self, reference: &Reference) -> Result<Option<Value>, Refused> {
-        let value = self.shelf.value(reference.name.canon(), reference.index);
+        let value = self
+            .row_store
+            .value(reference.name.canon(), reference.index);
         let found = copy_of(self.alloc, value);
         let value = tally(&mut self.refusals, found)?;
         self.reads = with_call(self.reads, found_octets(&value));
@@ -94,28 +96,28 @@ impl Rows for PlainRows {
     }
 
     fn values(&mut self, name: &Name) -> Result<Vec<Value>, Refused> {
-        let found = self.shelf.values(self.alloc, name.canon());
+        let found = self.row_store.values(self.alloc, name.canon());
         let values = tally(&mut self.refusals, found)?;
         self.reads = with_call(self.reads, values_octets(&values));
         Ok(values)
     }
 
     fn look(&mut self, name: &Name) -> Result<Option<Vec<Value>>, Refused> {
-        let found = self.shelf.look(self.alloc, name.canon());
+        let found = self.row_store.look(self.alloc, name.canon());
         let seen = tally(&mut self.refusals, found)?;
         self.reads = with_call(self.reads, seen_octets(&seen));
         Ok(seen)
     }
 
     fn heads(&mut self, name: &Name) -> Result<Option<Vec<Value>>, Refused> {
-        let found = self.shelf.heads(self.alloc, name.canon());
+        let found = self.row_store.heads(self.alloc, name.canon());
         let seen = tally(&mut self.refusals, found)?;
         self.reads = with_call(self.reads, seen_octets(&seen));
         Ok(seen)
     }
 
     fn names(&mut self, authority: &[u8]) -> Result<Vec<Octets>, Refused> {
-        let found = self.shelf.names(self.alloc, authority);
+        let found = self.row_store.names(self.alloc, authority);
         let names = tally(&mut self.refusals, found)?;
         self.reads = with_call(self.reads, names_octets(&names));
         Ok(names)
@@ -124,27 +126,27 @@ impl Rows for PlainRows {
     fn create(&mut self, name: &Name, values: &[Value]) -> Result<(), Refused> {
         // `authority` says that the handle begins with it.
         let _ = name.authority();
-        let done = self.shelf.create(self.alloc, name.canon(), values);
+        let done = self.row_store.create(self.alloc, name.canon(), values);
         tally(&mut self.refusals, done)
     }
 
     fn add(&mut self, name: &Name, values: &[Value]) -> Result<(), Refused> {
-        let done = self.shelf.put(self.alloc, name.canon(), values);
+        let done = self.row_store.put(self.alloc, name.canon(), values);
         tally(&mut self.refusals, done)
     }
 
     fn modify(&mut self, name: &Name, values: &[Value]) -> Result<(), Refused> {
-        let done = self.shelf.put(self.alloc, name.canon(), values);
+        let done = self.row_store.put(self.alloc, name.canon(), values);
         tally(&mut self.refusals, done)
     }
 
     fn remove(&mut self, name: &Name, indexes: &[u32]) -> Result<(), Refused> {
-        self.shelf.remove(name.canon(), indexes);
+        self.row_store.remove(name.canon(), indexes);
         Ok(())
     }
 
     fn delete(&mut self, name: &Name) -> Result<(), Refused> {
-        self.shelf.delete(name.canon());
+        self.row_store.delete(name.canon());
         Ok(())
     }
 

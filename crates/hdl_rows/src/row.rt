@@ -4,7 +4,7 @@ ghost use Rattle.std.specs.Prelude.{◌≡◌, IsTrue, ◌≤◌, ◌<◌, ◌+�
 ghost use Rattle.std.specs.List.{list_any, prefix_len};
 ghost use Rattle.std.specs.FinMap.{find, put, is_sorted};
 ghost use Rattle.std.specs.Ordering.{nat_cmp};
-ghost use Rattle.hdl_rows.specs.Shelf.{by_index, put_all};
+ghost use Rattle.hdl_rows.specs.RowStore.{by_index, put_all};
 ghost use Rattle.hdl_rows.specs.Table.{value_with};
 
 use hdl_value::Value;
@@ -86,7 +86,7 @@ pub(crate) fn put_copies(
 }
 
 /// Removes the values with these indexes.
-pub(crate) fn take_away(values: &mut Vec<Value>, indexes: &[u32])
+pub(crate) fn remove_indexes(values: &mut Vec<Value>, indexes: &[u32])
     ensures { values.new.items ≡ filter (λ v. not (list_any (λ i. i == v.index) indexes.now)) values.old.items }
 {
     values.retain(|value| !indexes.contains(&value.index));

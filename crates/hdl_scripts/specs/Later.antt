@@ -2,7 +2,7 @@
 use Rattle.std.specs.Prelude.{Bool, true, false}
 use Rattle.sqlite.specs.State.{State}
 use Rattle.hdl_rows.specs.Write.{CanWrite}
-use Rattle.hdl_lastingrows.specs.Lasting.{Standing, Keeps, Makes, Doubts, IsKept, IsTried, IsDoubted}
+use Rattle.hdl_durablerows.specs.Durable.{Standing, Keeps, Makes, Doubts, IsKept, IsTried, IsDoubted}
 
 -- What is known of the file, by whether the write that was begun was tried. Before that the database keeps the table, which allows the write.
 abbrev pub StandsLater : Bool → State → Standing → Type 0

@@ -2,8 +2,8 @@
 use Rattle.std.proofs.Common.{◌≡◌, List, [], ◌∷◌, ◌++◌, refl, sym, ap, ◌∙◌, subst}
 use Rattle.hdl_laws.specs.Worlds.{World, with_table}
 use Rattle.hdl_laws.specs.Steps.{Turn}
-use Rattle.hdl_together.specs.Shared.{Part, Took, TookOver, AreParts, after_parts, turns_in}
-use Rattle.hdl_together.proofs.Parts.{are_joined, turns_joined}
+use Rattle.hdl_cluster_laws.specs.Shared.{Part, Took, TookOver, AreParts, after_parts, turns_in}
+use Rattle.hdl_cluster_laws.proofs.Parts.{are_joined, turns_joined}
 use Rattle.hdl_workers.specs.declared.ends.LaneEnds.{LaneEnds}
 use Rattle.hdl_serve.specs.declared.news.StampedChange.{StampedChange}
 use Rattle.hdl_serve.specs.Shared.{TakeOver, ServedBehind}

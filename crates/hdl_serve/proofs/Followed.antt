@@ -5,9 +5,9 @@ use Rattle.hdl_ops.specs.declared.change.Change.{Change}
 use Rattle.hdl_ops.specs.Tables.{apply, apply_if}
 use Rattle.hdl_laws.specs.Worlds.{World, with_table, owner}
 use Rattle.hdl_laws.specs.Steps.{Turn, IsStep, IsAnswerFor, moment_of}
-use Rattle.hdl_together.specs.Together.{ServerTurn, at_server}
-use Rattle.hdl_together.specs.Shared.{Part, Took, TookOver, AreParts, AreAmong, IsNextTurn, FollowsList}
-use Rattle.hdl_together.proofs.Following.{kept_by}
+use Rattle.hdl_cluster_laws.specs.Together.{ServerTurn, at_server}
+use Rattle.hdl_cluster_laws.specs.Shared.{Part, Took, TookOver, AreParts, AreAmong, IsNextTurn, FollowsList}
+use Rattle.hdl_cluster_laws.proofs.Following.{kept_by}
 use Rattle.hdl_serve.specs.declared.news.StampedChange.{StampedChange}
 use Rattle.hdl_serve.specs.Shared.{TakeOver, IsAsInTurn, FollowsChanges}
 

@@ -12,7 +12,7 @@ use Rattle.hdl_laws.specs.Worlds.{World}
 use Rattle.hdl_laws.specs.Steps.{Turn}
 use Rattle.hdl_laws.specs.Runs.{events, outcomes}
 use Rattle.hdl_laws.specs.Laws.{HostsNoRoot, RestrictsRuns, TwinsReplyAlike}
-use Rattle.hdl_together.specs.Shared.{turns_in}
+use Rattle.hdl_cluster_laws.specs.Shared.{turns_in}
 use Rattle.hdl_workers.specs.declared.item.Item.{Item}
 use Rattle.hdl_workers.specs.declared.ends.LaneEnds.{LaneEnds}
 use Rattle.hdl_workers.specs.Sign.{WithEnd}
@@ -21,13 +21,13 @@ use Rattle.hdl_serve.specs.Served.{events_on, outcomes_on, items_of, IsOnOne, La
 use Rattle.hdl_serve.specs.declared.news.StampedChange.{StampedChange}
 use Rattle.hdl_serve.specs.declared.serving.SharedEnd.{SharedEnd}
 use Rattle.hdl_serve.specs.Shared.{TakeOver, IsShared}
-use Rattle.hdl_serve.specs.Rounds.{AreWithEnd, GaveEnd, Passes, Serves, EachLane, RunBeside, IsServing, on_lane}
+use Rattle.hdl_serve.specs.Rounds.{AreWithEnd, GaveEnd, Passes, Serves, EachLane, HasRunBeside, IsServing, on_lane}
 use Rattle.hdl_serve.proofs.Beside.{own_events, own_outcomes, foreign_events, foreign_outcomes}
 use Rattle.hdl_serve.proofs.Sharing.{beside_none, beside_run, beside_then, alone}
 use Rattle.hdl_serve.proofs.Steps.{passes_then, passes_nothing}
 
 -- turns have one outcome for each event
-length_beside : (w new : World) (cs : List StampedChange) (es : List Event) (os : List Outcome) → RunBeside w cs es os new → length es ≡ length os
+length_beside : (w new : World) (cs : List StampedChange) (es : List Event) (os : List Outcome) → HasRunBeside w cs es os new → length es ≡ length os
 length_beside w new cs es os run =
     sym (ap length run.3) ∙ length-map (turns_in run.0) (λ (t : Turn). t.event) ∙ sym (length-map (turns_in run.0) (λ (t : Turn). t.outcome)) ∙ ap length run.4
 
@@ -73,7 +73,7 @@ serving_on w mid new before cs lanes now i e f d b there flagged s h =
     let more : List Event = on_lane n s.whats in
     let here : i < length before = subst (λ m. i < m) h.lanes.long there in
     let long : length h.events ≡ length h.outcomes = length_beside w mid cs h.events h.outcomes h.run in
-    let served : RunBeside mid [] more s.outcomes new = beside_run mid new more s.outcomes s.run in
+    let served : HasRunBeside mid [] more s.outcomes new = beside_run mid new more s.outcomes s.run in
     let few : length s.whats ≡ length s.outcomes = sym (length-map s.whats (λ (what : What). record { lane = n; what = what })) ∙ length_beside mid new [] more s.outcomes served in
     let number : (x : LaneEnds) → (get_or before i x).lane ≡ n
     = λ x. sym (h.lanes.each i x here).lane ∙ ap (λ (z : LaneEnds). z.lane) (get_or_default lanes i x d there) in
@@ -99,7 +99,7 @@ serving_on w mid new before cs lanes now i e f d b there flagged s h =
       distinct = h.distinct;
       events = h.events ++ more;
       outcomes = h.outcomes ++ s.outcomes;
-      run = subst (λ xs. RunBeside w xs (h.events ++ more) (h.outcomes ++ s.outcomes) new) (append-nil cs) (beside_then w mid new cs [] h.events more h.outcomes s.outcomes h.run served);
+      run = subst (λ xs. HasRunBeside w xs (h.events ++ more) (h.outcomes ++ s.outcomes) new) (append-nil cs) (beside_then w mid new cs [] h.events more h.outcomes s.outcomes h.run served);
       given = All-append (IsOnOne before) h.events more h.given (all_on_one before i n s.whats here number);
       lanes = record {
         long = length-set lanes i b ∙ h.lanes.long;
@@ -111,13 +111,13 @@ serving_on w mid new before cs lanes now i e f d b there flagged s h =
     }
 
 -- changes of others were let in
-pub serving_beside : (w mid new : World) (before lanes : List LaneEnds) (cs ds : List StampedChange) (now : List Bool) → IsServing w before cs mid lanes now → RunBeside mid ds [] [] new → IsServing w before (cs ++ ds) new lanes now
+pub serving_beside : (w mid new : World) (before lanes : List LaneEnds) (cs ds : List StampedChange) (now : List Bool) → IsServing w before cs mid lanes now → HasRunBeside mid ds [] [] new → IsServing w before (cs ++ ds) new lanes now
 serving_beside w mid new before lanes cs ds now h run = record {
   distinct = h.distinct;
   events = h.events;
   outcomes = h.outcomes;
-  run = subst (λ es. RunBeside w (cs ++ ds) es h.outcomes new) (append-nil h.events)
-      (subst (λ os. RunBeside w (cs ++ ds) (h.events ++ []) os new) (append-nil h.outcomes) (beside_then w mid new cs ds h.events [] h.outcomes [] h.run run));
+  run = subst (λ es. HasRunBeside w (cs ++ ds) es h.outcomes new) (append-nil h.events)
+      (subst (λ os. HasRunBeside w (cs ++ ds) (h.events ++ []) os new) (append-nil h.outcomes) (beside_then w mid new cs ds h.events [] h.outcomes [] h.run run));
   given = h.given;
   lanes = h.lanes;
 }
@@ -211,9 +211,9 @@ served restricts twins w new before after no_root s =
     }
 
 -- serving that hasn't parted is over
-pub not_parted : (end : SharedEnd) (P : Type 0) → (end ≡ SharedEnd.Over → P) → (end ≡ SharedEnd.Parted → ⊥) → P
+pub not_parted : (end : SharedEnd) (P : Type 0) → (end ≡ SharedEnd.Over → P) → (end ≡ SharedEnd.Diverged → ⊥) → P
 not_parted SharedEnd.Over P over parted = over refl
-not_parted SharedEnd.Parted P over parted = absurd (parted refl)
+not_parted SharedEnd.Diverged P over parted = absurd (parted refl)
 
 -- what is denied isn't so
 pub turned : (b v : Bool) → v ≡ not b → v ≡ false → b ≡ true

@@ -6,12 +6,12 @@ use Rattle.hdl_events.specs.declared.Outcome.{Outcome}
 use Rattle.hdl_ops.specs.Tables.{apply, CanApply}
 use Rattle.hdl_laws.specs.Worlds.{World, with_table}
 use Rattle.hdl_laws.specs.Steps.{Turn}
-use Rattle.hdl_laws.specs.Runs.{Run, IsRun, last, events, outcomes}
-use Rattle.hdl_together.specs.Shared.{Part, Took, TookOver, AreParts, after_parts, turns_in}
-use Rattle.hdl_together.proofs.Parts.{are_joined, after_joined, turns_joined, are_turns, after_turns, turns_back}
+use Rattle.hdl_laws.specs.Runs.{HasRun, IsRun, last, events, outcomes}
+use Rattle.hdl_cluster_laws.specs.Shared.{Part, Took, TookOver, AreParts, after_parts, turns_in}
+use Rattle.hdl_cluster_laws.proofs.Parts.{are_joined, after_joined, turns_joined, are_turns, after_turns, turns_back}
 use Rattle.hdl_serve.specs.declared.news.StampedChange.{StampedChange}
 use Rattle.hdl_serve.specs.Shared.{TakeOver}
-use Rattle.hdl_serve.specs.Rounds.{RunBeside}
+use Rattle.hdl_serve.specs.Rounds.{HasRunBeside}
 
 pub take_joined : (w : World) (ps qs : List Part) (cs ds : List StampedChange) → TakeOver w ps cs → TakeOver (after_parts w ps) qs ds → TakeOver w (ps ++ qs) (cs ++ ds)
 take_joined w [] qs cs ds a b = subst (λ xs. TakeOver w qs (xs ++ ds)) (sym a) b
@@ -23,11 +23,11 @@ take_turns : (w : World) (turns : List Turn) → TakeOver w (map Took turns) []
 take_turns w [] = refl
 take_turns w (step ∷ turns) = take_turns step.after turns
 
-pub beside_none : (w : World) → RunBeside w [] [] [] w
+pub beside_none : (w : World) → HasRunBeside w [] [] [] w
 beside_none w = ([], tt, refl, refl, refl, refl)
 
 -- a run is beside no changes
-pub beside_run : (w new : World) (es : List Event) (os : List Outcome) → Run w es os new → RunBeside w [] es os new
+pub beside_run : (w new : World) (es : List Event) (os : List Outcome) → HasRun w es os new → HasRunBeside w [] es os new
 beside_run w new es os run = (
   map Took run.0,
   are_turns w run.0 run.1,
@@ -38,10 +38,10 @@ beside_run w new es os run = (
 )
 
 -- one change of others
-pub beside_change : (w new : World) (c : StampedChange) → CanApply w.table c.change → new ≡ with_table w (apply w.table c.moment c.change) → RunBeside w (c ∷ []) [] [] new
+pub beside_change : (w new : World) (c : StampedChange) → CanApply w.table c.change → new ≡ with_table w (apply w.table c.moment c.change) → HasRunBeside w (c ∷ []) [] [] new
 beside_change w new c can is = (TookOver (apply w.table c.moment c.change) ∷ [], tt, (can, refl, refl), refl, refl, sym is)
 
-pub beside_then : (w mid new : World) (cs ds : List StampedChange) (es fs : List Event) (os qs : List Outcome) → RunBeside w cs es os mid → RunBeside mid ds fs qs new → RunBeside w (cs ++ ds) (es ++ fs) (os ++ qs) new
+pub beside_then : (w mid new : World) (cs ds : List StampedChange) (es fs : List Event) (os qs : List Outcome) → HasRunBeside w cs es os mid → HasRunBeside mid ds fs qs new → HasRunBeside w (cs ++ ds) (es ++ fs) (os ++ qs) new
 beside_then w mid new cs ds es fs os qs a b = (
   a.0 ++ b.0,
   are_joined w a.0 b.0 a.1 (subst (λ x. AreParts x b.0) (sym a.5) b.1),
@@ -62,16 +62,16 @@ alone w (TookOver table ∷ ps) are none = absurd none
 -- ---- what the news gave
 
 -- nothing was let in
-pub lets_none : (w new : World) (known now : List StampedChange) → new ≡ w → now ≡ known → (cs : List StampedChange) × (now ≡ known ++ cs) × RunBeside w cs [] [] new
-lets_none w new known now same is = ([], is ∙ sym (append-nil known), subst (RunBeside w [] [] []) (sym same) (beside_none w))
+pub lets_none : (w new : World) (known now : List StampedChange) → new ≡ w → now ≡ known → (cs : List StampedChange) × (now ≡ known ++ cs) × HasRunBeside w cs [] [] new
+lets_none w new known now same is = ([], is ∙ sym (append-nil known), subst (HasRunBeside w [] [] []) (sym same) (beside_none w))
 
 -- first some changes, and then others
-pub lets_both : (w mid new : World) (known some now : List StampedChange) → ((cs : List StampedChange) × (some ≡ known ++ cs) × RunBeside w cs [] [] mid) → ((ds : List StampedChange) × (now ≡ some ++ ds) × RunBeside mid ds [] [] new)
-    → (es : List StampedChange) × (now ≡ known ++ es) × RunBeside w es [] [] new
+pub lets_both : (w mid new : World) (known some now : List StampedChange) → ((cs : List StampedChange) × (some ≡ known ++ cs) × HasRunBeside w cs [] [] mid) → ((ds : List StampedChange) × (now ≡ some ++ ds) × HasRunBeside mid ds [] [] new)
+    → (es : List StampedChange) × (now ≡ known ++ es) × HasRunBeside w es [] [] new
 lets_both w mid new known some now a b = (a.0 ++ b.0, b.1 ∙ ap (λ xs. xs ++ b.0) a.1 ∙ append_assoc known a.0 b.0, beside_then w mid new a.0 b.0 [] [] [] [] a.2 b.2)
 
 -- the change that was seen is the one that was let in
 pub lets_one : (w new : World) (known now : List StampedChange) (seen : Option StampedChange) (c : StampedChange) → seen ≡ Some c → MatchOption seen (now ≡ known) (λ x. now ≡ known ++ x ∷ [])
-    → CanApply w.table c.change → new ≡ with_table w (apply w.table c.moment c.change) → (cs : List StampedChange) × (now ≡ known ++ cs) × RunBeside w cs [] [] new
+    → CanApply w.table c.change → new ≡ with_table w (apply w.table c.moment c.change) → (cs : List StampedChange) × (now ≡ known ++ cs) × HasRunBeside w cs [] [] new
 lets_one w new known now seen c is taken can done =
     (c ∷ [], subst (λ o. MatchOption o (now ≡ known) (λ x. now ≡ known ++ x ∷ [])) is taken, beside_change w new c can done)

@@ -9,7 +9,7 @@ use Rattle.hdl_events.specs.declared.Event.{Event}
 use Rattle.hdl_events.specs.declared.Outcome.{Outcome}
 use Rattle.hdl_laws.specs.Worlds.{World}
 use Rattle.hdl_laws.specs.Steps.{Turn}
-use Rattle.hdl_laws.specs.Runs.{Run, Steps, is_busy}
+use Rattle.hdl_laws.specs.Runs.{HasRun, HasStep, is_busy}
 use Rattle.hdl_laws.proofs.Restriction.{answer_calm}
 use Rattle.hdl_laws.specs.Laws.{JoinsRuns}
 use Rattle.hdl_workers.specs.declared.item.Item.{Item}
@@ -90,7 +90,7 @@ pub serves_none : (f g : Bool) (w : World) (a b : LaneEnds) → Passes f g [] []
 serves_none f g w a b p = record { whats = []; outcomes = []; run = ([], tt, refl, refl, refl); passes = p }
 
 -- one event was
-pub serves_one : (f g : Bool) (w new : World) (what : What) (o : Outcome) (a b c : LaneEnds) → Passes f g (what ∷ []) [] a b → Answers o b c → Steps w (record { lane = a.lane; what = what }) o new
+pub serves_one : (f g : Bool) (w new : World) (what : What) (o : Outcome) (a b c : LaneEnds) → Passes f g (what ∷ []) [] a b → Answers o b c → HasStep w (record { lane = a.lane; what = what }) o new
     → Serves f g w new a c
 serves_one f g w new what o a b c p t step = record {
   whats = what ∷ [];
@@ -106,7 +106,7 @@ serves_then joins f g h w mid new a b c p q =
     record {
       whats = p.whats ++ q.whats;
       outcomes = p.outcomes ++ q.outcomes;
-      run = subst (λ es. Run w es (p.outcomes ++ q.outcomes) new) lanes
+      run = subst (λ es. HasRun w es (p.outcomes ++ q.outcomes) new) lanes
           (joins w mid new (on_lane a.lane p.whats) (on_lane b.lane q.whats) p.outcomes q.outcomes p.run q.run);
       passes = passes_then f g h p.whats q.whats p.outcomes q.outcomes a b c p.passes q.passes;
     }
@@ -114,14 +114,14 @@ serves_then joins f g h w mid new a b c p q =
 -- ---- an event that stays
 
 -- a busy step leaves the world as it was
-busy_stays : (w new : World) (e : Event) (o : Outcome) → Steps w e o new → is_busy o ≡ true → w ≡ new
+busy_stays : (w new : World) (e : Event) (o : Outcome) → HasStep w e o new → is_busy o ≡ true → w ≡ new
 busy_stays w new e o step busy = elim step.1 [
   | inl answer ↦ absurd (true≢false (sym busy ∙ sym (ap is_busy step.3) ∙ answer_calm w step.0 answer))
   | inr is ↦ sym (ap (λ (t : Turn). t.after) is.busy) ∙ step.4
 ]
 
 -- a busy step whose event stays
-pub serves_kept : (f : Bool) (w new : World) (e : Event) (o : Outcome) (a : LaneEnds) → Steps w e o new → is_busy o ≡ true → Serves f f w new a a
+pub serves_kept : (f : Bool) (w new : World) (e : Event) (o : Outcome) (a : LaneEnds) → HasStep w e o new → is_busy o ≡ true → Serves f f w new a a
 serves_kept f w new e o a step busy = subst (λ x. Serves f f w x a a) (busy_stays w new e o step busy) (serves_none f f w a a (passes_nothing f a))
 
 -- what stands first is one
@@ -136,7 +136,7 @@ serves_later : (f g : Bool) (w new : World) (a b c : LaneEnds) → Passes f f []
 serves_later f g w new a b c p s = record {
   whats = s.whats;
   outcomes = s.outcomes;
-  run = subst (λ n. Run w (on_lane n s.whats) s.outcomes new) p.lane s.run;
+  run = subst (λ n. HasRun w (on_lane n s.whats) s.outcomes new) p.lane s.run;
   passes = passes_first f g s.whats s.outcomes a b c p s.passes;
 }
 

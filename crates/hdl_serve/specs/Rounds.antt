@@ -8,8 +8,8 @@ use Rattle.hdl_events.specs.declared.Event.{Event}
 use Rattle.hdl_events.specs.declared.Outcome.{Outcome}
 use Rattle.hdl_laws.specs.Worlds.{World}
 use Rattle.hdl_laws.specs.Runs as runs
-use Rattle.hdl_laws.specs.Runs.{Run, is_busy}
-use Rattle.hdl_together.specs.Shared.{Part, AreParts, after_parts, turns_in}
+use Rattle.hdl_laws.specs.Runs.{HasRun, is_busy}
+use Rattle.hdl_cluster_laws.specs.Shared.{Part, AreParts, after_parts, turns_in}
 use Rattle.hdl_workers.specs.declared.item.Item.{Item}
 use Rattle.hdl_workers.specs.declared.ends.LaneEnds.{LaneEnds}
 use Rattle.hdl_workers.specs.Ends.{AreDistinct}
@@ -58,7 +58,7 @@ on_lane n whats = map (λ what. record { lane = n; what = what }) whats
 pub record Serves (was now : Bool) (w new : World) (a b : LaneEnds) : Type 0 where
   pub whats : List What
   pub outcomes : List Outcome
-  pub run : Run w (on_lane a.lane whats) outcomes new
+  pub run : HasRun w (on_lane a.lane whats) outcomes new
   pub passes : Passes was now whats outcomes a b
 
 -- the lane gave events and then End
@@ -71,14 +71,14 @@ pub record EachLane (R : ℕ → LaneEnds → LaneEnds → Type 0) (before after
   pub each : (place : ℕ) (d : LaneEnds) → place < length before → R place (get_or before place d) (get_or after place d)
 
 -- turns with these events and outcomes, and between them these changes of others, lead from one world to the other
-abbrev pub RunBeside : World → List StampedChange → List Event → List Outcome → World → Type 0
-RunBeside w changes es os new = (parts : List Part) × AreParts w parts × TakeOver w parts changes × (runs.events (turns_in parts) ≡ es) × (runs.outcomes (turns_in parts) ≡ os) × (after_parts w parts ≡ new)
+abbrev pub HasRunBeside : World → List StampedChange → List Event → List Outcome → World → Type 0
+HasRunBeside w changes es os new = (parts : List Part) × AreParts w parts × TakeOver w parts changes × (runs.events (turns_in parts) ≡ es) × (runs.outcomes (turns_in parts) ≡ os) × (after_parts w parts ≡ new)
 
 -- serving has come from one world to the other, beside these changes; which lanes have ended
 pub record IsServing (w : World) (before : List LaneEnds) (changes : List StampedChange) (new : World) (after : List LaneEnds) (ended : List Bool) : Type 0 where
   pub distinct : AreDistinct before
   pub events : List Event
   pub outcomes : List Outcome
-  pub run : RunBeside w changes events outcomes new
+  pub run : HasRunBeside w changes events outcomes new
   pub given : All (IsOnOne before) events
   pub lanes : EachLane (λ place a b. Passes false (get_or ended place false) (events_on a.lane events) (outcomes_on a.lane events outcomes) a b) before after

@@ -6,7 +6,7 @@ use Rattle.hdl_events.specs.declared.What.{What}
 use Rattle.hdl_events.specs.declared.Event.{Event}
 use Rattle.hdl_events.specs.declared.Outcome.{Outcome}
 use Rattle.hdl_laws.specs.Worlds.{World}
-use Rattle.hdl_laws.specs.Runs.{Run}
+use Rattle.hdl_laws.specs.Runs.{HasRun}
 use Rattle.hdl_laws.specs.Laws.{Isolated, Hidden}
 use Rattle.hdl_workers.specs.Sign.{WithEnd}
 use Rattle.hdl_workers.specs.declared.item.Item.{Item}
@@ -64,7 +64,7 @@ IsOnOne lanes e = Contains (map (λ a. a.lane) lanes) e.lane
 pub record IsServed (w : World) (before : List LaneEnds) (new : World) (after : List LaneEnds) : Type 0 where
   pub events : List Event
   pub outcomes : List Outcome
-  pub run : Run w events outcomes new
+  pub run : HasRun w events outcomes new
   pub isolated : Isolated w events outcomes
   pub hidden : Hidden w events outcomes
   pub lanes : AllZip (LaneServed events outcomes) before after

@@ -7,8 +7,8 @@ use Rattle.hdl_ops.specs.Tables.{apply, CanApply}
 use Rattle.hdl_laws.specs.Worlds.{World, with_table}
 use Rattle.hdl_laws.specs.Steps.{Turn, moment_of}
 use Rattle.hdl_laws.specs.Runs.{events, outcomes}
-use Rattle.hdl_together.specs.Together.{ServerTurn, at_server}
-use Rattle.hdl_together.specs.Shared.{Part, Took, TookOver, AreParts, AreOfOthers, IsNextTurn, after_parts, turns_in}
+use Rattle.hdl_cluster_laws.specs.Together.{ServerTurn, at_server}
+use Rattle.hdl_cluster_laws.specs.Shared.{Part, Took, TookOver, AreParts, AreOfOthers, IsNextTurn, after_parts, turns_in}
 use Rattle.hdl_workers.specs.declared.ends.LaneEnds.{LaneEnds}
 use Rattle.hdl_serve.specs.declared.news.StampedChange.{StampedChange}
 use Rattle.hdl_serve.specs.Served.{LaneServed, IsOnOne}

@@ -12,10 +12,10 @@
 //! tells of a value that may not be read, and each lane was given its events' outcomes. [`laws`] joins this with what the workers promise: after the joins
 //! what was put is what was served and what is left.
 //!
-//! [`serve_shared`] does the same beside other servers that have the same table: before each round it lets in the changes that [`News`] gives. What it did is one list of
+//! [`serve_shared`] does the same beside other servers that have the same table: before each round it lets in the changes that [`RemoteChanges`] gives. What it did is one list of
 //! turns and of tables that it took over. If all servers' changes are one list, [`laws::servers_serve_as_one`] makes one service of what they all did, isolated and hidden.
 //!
-//! Nothing here takes a lock or waits for anyone: what finds nothing pauses by the caller's [`Clock`], and all is bounded by a
+//! Nothing here takes a lock or waits for anyone: what finds nothing pauses by the caller's [`LoopClock`], and all is bounded by a
 //! number of turns.
 //!
 //! ```rust
@@ -55,21 +55,21 @@
 #![tactic(auto)]
 
 pub mod laws;
-mod letting;
 mod news;
+mod remote_changes;
 mod rounds;
+mod schedule;
 mod serving;
-mod shares;
 
 pub use hdl_core::{Change, Owing, Service};
 pub use hdl_events::{Outcome, What};
 pub use hdl_lanes::{Ended, Full, Outlet};
 pub use hdl_limits::Octets;
-pub use hdl_queue::WriteQueue;
 pub use hdl_workers::{
-    Clock, Datagram, Door, DoorFault, EndReason, Item, LaneEnds, MemoryClock, MemoryConnection,
+    Datagram, Door, DoorFault, EndReason, Item, LaneEnds, LoopClock, MemoryClock, MemoryConnection,
     MemoryDoor, MemoryNonces, MemoryPackets, Nonces, Packets, WorkerEnd, WorkerSide, lanes_of,
     packet_worker, stream_worker,
 };
-pub use news::{News, StampedChange};
+pub use hdl_write_queue::WriteQueue;
+pub use news::{RemoteChanges, StampedChange};
 pub use serving::{Served, Shared, SharedEnd, serve, serve_shared};

@@ -12,7 +12,7 @@ pub struct StampedChange {
 }
 
 /// The changes that other servers made, in the order of the one list of changes.
-pub trait News {
+pub trait RemoteChanges {
     ghost use Rattle.hdl_serve.specs.declared.news.StampedChange.{StampedChange};
 
     /// The changes that were taken so far, the oldest first.
@@ -43,9 +43,9 @@ pub trait News {
 
 /// The news of a server beside which there is no other.
 #[derive(Drop)]
-pub(crate) struct NoNews;
+pub(crate) struct NoRemoteChanges;
 
-impl News for NoNews {
+impl RemoteChanges for NoRemoteChanges {
     ghost taken = { λ _. [] };
 
     ghost seen = { λ _. None };

@@ -6,18 +6,18 @@ ghost use Rattle.hdl_laws.specs.Worlds.{World};
 ghost use Rattle.hdl_laws.specs.Runs.{is_busy};
 ghost use Rattle.hdl_workers.specs.declared.item.Item.{Item};
 ghost use Rattle.hdl_workers.specs.declared.ends.LaneEnds.{LaneEnds};
-ghost use Rattle.hdl_queue.specs.Waiting.{is_turn, without_lane};
+ghost use Rattle.hdl_write_queue.specs.Waiting.{is_turn, without_lane};
 ghost use Rattle.hdl_rows.specs.Debt.{is_owed};
 ghost use Rattle.hdl_serve.specs.declared.news.StampedChange.{StampedChange};
 ghost use Rattle.hdl_serve.specs.Rounds.{Answers, IsCopyOf, IsServing, Passes, PutsNoBusy, Serves};
 
-use crate::shares::{Rota, Seen, Share};
-use hdl_core::{Machine, Owed, Owing, Stepped};
+use crate::schedule::{Schedule, Seen, TimeSlice};
+use hdl_core::{Machine, Owed, Owing, StepResult};
 use hdl_events::{Event, Outcome, What};
 use hdl_laws::laws::runs_joined;
 use hdl_limits::Octets;
-use hdl_queue::WriteQueue;
-use hdl_workers::{Clock, Item, LaneEnds};
+use hdl_workers::{Item, LaneEnds, LoopClock};
+use hdl_write_queue::WriteQueue;
 use std::alloc::{AllocError, Global};
 
 /// The lane's next event, if one is seen and its outcome finds room. A lane that gave End isn't asked again.
@@ -116,7 +116,7 @@ fn is_ready(ends: &mut LaneEnds) -> bool
     ensures passes { (f : Bool) → Passes f f [] [] ends.old ends.new }
     ensures ready { IsTrue result → (0 < known_room ends.new.outcomes) × (0 < length (seen_in ends.new.items)) }
 {
-    ends.outcomes.has_room() && ends.items.sees()
+    ends.outcomes.has_room() && ends.items.has_item()
 }
 
 fn is_busy(outcome: &Outcome) -> bool
@@ -174,7 +174,7 @@ fn serve_copy<R: Owing + Drop>(
         lane: ends.lane,
         what: copy,
     };
-    let Stepped { outcome, owed } = machine.step(event, may_write);
+    let StepResult { outcome, owed } = machine.step(event, may_write);
     if stays(queue, ends.lane, &outcome, is_owed(owed), seen) {
         return false;
     }
@@ -241,13 +241,13 @@ struct Given {
 }
 
 /// Serves the lane's events as long as one is seen, at most as many as a lane gives in its publisher's turn, and until that is over.
-fn serve_lane<R: Owing + Drop, C: Clock>(
+fn serve_lane<R: Owing + Drop, C: LoopClock>(
     machine: &mut Machine<R>,
     ends: &mut LaneEnds,
     ended: &mut bool,
     queue: &mut WriteQueue,
     clock: &mut C,
-    share: &Share,
+    share: &TimeSlice,
 ) -> Given
     ensures few { result.events ≤ share.now.most }
     ensures served { Serves ended.old ended.new machine.old.world machine.new.world ends.old ends.new }
@@ -274,13 +274,13 @@ fn serve_lane<R: Owing + Drop, C: Clock>(
 }
 
 /// Serves the lanes of a publisher one after another, until its turn is over or each of them was asked. The most that one of them gave.
-fn serve_share<R: Owing + Drop, C: Clock>(
+fn serve_share<R: Owing + Drop, C: LoopClock>(
     machine: &mut Machine<R>,
     lanes: &mut [LaneEnds],
     ended: &mut [bool],
     queue: &mut WriteQueue,
     clock: &mut C,
-    share: &mut Share,
+    share: &mut TimeSlice,
 ) -> u64
     requires ended { length ended.old ≡ length lanes.old }
     ensures few { result ≤ share.old.most }
@@ -311,23 +311,23 @@ fn serve_share<R: Owing + Drop, C: Clock>(
 }
 
 /// Each publisher has its turn. The most that one lane gave.
-fn serve_shares<R: Owing + Drop, C: Clock>(
+fn serve_shares<R: Owing + Drop, C: LoopClock>(
     machine: &mut Machine<R>,
     lanes: &mut [LaneEnds],
     ended: &mut [bool],
     queue: &mut WriteQueue,
     clock: &mut C,
-    rota: &mut Rota,
+    schedule: &mut Schedule,
 ) -> u64
     requires ended { length ended.old ≡ length lanes.old }
-    ensures few { result ≤ rota.old.most }
+    ensures few { result ≤ schedule.old.most }
     ensures serving { (w : World) (before : List LaneEnds) (changes : List StampedChange) → IsServing w before changes machine.old.world lanes.old ended.old → IsServing w before changes machine.new.world lanes.new ended.new }
 {
-    let most = rota.most;
-    let seen = rota.seen;
+    let most = schedule.most;
+    let seen = schedule.seen;
     let mut longest = 0;
-    for i in 0..rota.shares.len() {
-        let Some(share) = rota.shares.get_mut(i) else {
+    for i in 0..schedule.shares.len() {
+        let Some(share) = schedule.shares.get_mut(i) else {
             return longest;
         };
         share.begin(most, seen, clock.now());
@@ -359,21 +359,21 @@ fn serve_writer<R: Owing + Drop>(
 }
 
 /// One round: the next event of the lane whose turn it is to write, or where that gives none each publisher's turn. The most that one lane gave.
-pub(crate) fn serve_round<R: Owing + Drop, C: Clock>(
+pub(crate) fn serve_round<R: Owing + Drop, C: LoopClock>(
     machine: &mut Machine<R>,
     lanes: &mut [LaneEnds],
     ended: &mut [bool],
     queue: &mut WriteQueue,
     clock: &mut C,
-    rota: &mut Rota,
+    schedule: &mut Schedule,
 ) -> u64
     requires ended { length ended.old ≡ length lanes.old }
-    requires some { 0 < rota.old.most }
-    ensures few { result ≤ rota.old.most }
+    requires some { 0 < schedule.old.most }
+    ensures few { result ≤ schedule.old.most }
     ensures serving { (w : World) (before : List LaneEnds) (changes : List StampedChange) → IsServing w before changes machine.old.world lanes.old ended.old → IsServing w before changes machine.new.world lanes.new ended.new }
 {
-    if serve_writer(rota.alloc, machine, lanes, ended, queue, rota.seen) {
+    if serve_writer(schedule.alloc, machine, lanes, ended, queue, schedule.seen) {
         return 1;
     }
-    serve_shares(machine, lanes, ended, queue, clock, rota)
+    serve_shares(machine, lanes, ended, queue, clock, schedule)
 }

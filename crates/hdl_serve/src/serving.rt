@@ -10,14 +10,14 @@ ghost use Rattle.hdl_serve.specs.Served.{IsServed};
 ghost use Rattle.hdl_serve.specs.Shared.{IsShared, IsUnfit};
 ghost use Rattle.hdl_workers.specs.Ends.{AreDistinct};
 
-use crate::letting::let_in_news;
-use crate::news::{News, NoNews};
+use crate::news::{NoRemoteChanges, RemoteChanges};
+use crate::remote_changes::apply_remote_changes;
 use crate::rounds::serve_round;
-use crate::shares::{Rota, Seen};
+use crate::schedule::{Schedule, Seen};
 use hdl_core::{Machine, Owed, Owing, Rows, Service};
 use hdl_laws::laws::{restricted, twin_replies};
-use hdl_queue::WriteQueue;
-use hdl_workers::{Clock, LaneEnds};
+use hdl_workers::{LaneEnds, LoopClock};
+use hdl_write_queue::WriteQueue;
 use std::alloc::Global;
 
 /// How many events of a lane are served in a row.
@@ -39,7 +39,7 @@ pub enum SharedEnd {
     /// The turns are spent, or each lane has given End.
     Over,
     /// The table can't have the next change of the others.
-    Parted,
+    Diverged,
 }
 
 /// What serving beside other servers gives back.
@@ -50,7 +50,7 @@ pub struct Shared<R: Rows + Drop> {
 }
 
 /// Tells the clock that a round did something, or pauses.
-fn end_round<C: Clock>(clock: &mut C, has_worked: bool) {
+fn end_round<C: LoopClock>(clock: &mut C, has_worked: bool) {
     if has_worked {
         clock.note_work();
     } else {
@@ -87,25 +87,25 @@ fn have_ended(ended: &[bool], lanes: usize) -> bool
 }
 
 /// One round, of as many turns at most as the rota says. How many it took: 0 where nothing was served. Where the memory for it is refused no lane is asked.
-fn round<R: Owing + Drop, C: Clock>(
+fn round<R: Owing + Drop, C: LoopClock>(
     machine: &mut Machine<R>,
     lanes: &mut [LaneEnds],
     ended: &mut Vec<bool>,
     queue: &mut WriteQueue,
     clock: &mut C,
-    rota: &mut Rota,
+    schedule: &mut Schedule,
 ) -> u64
-    requires some { 0 < rota.old.most }
-    ensures few { result ≤ rota.old.most }
+    requires some { 0 < schedule.old.most }
+    ensures few { result ≤ schedule.old.most }
     ensures serving { (w : World) (before : List LaneEnds) (changes : List StampedChange) → IsServing w before changes machine.old.world lanes.old ended.old.items → IsServing w before changes machine.new.world lanes.new ended.new.items }
 {
-    if rota.share_out(machine, lanes).is_err() {
+    if schedule.assign_lanes(machine, lanes).is_err() {
         return 0;
     }
     if ended.resize(lanes.len(), false).is_err() {
         return 0;
     }
-    serve_round(machine, lanes, ended.as_mut_slice(), queue, clock, rota)
+    serve_round(machine, lanes, ended.as_mut_slice(), queue, clock, schedule)
 }
 
 /// Goes round the lanes until each has given End or the turns are spent. A turn serves at most one event of
@@ -122,7 +122,7 @@ fn round<R: Owing + Drop, C: Clock>(
 /// order. What was taken from each lane is its events in that list, followed by at most one End; what was put into it is these events'
 /// outcomes, in order. Each event of that list bears the number of a lane that was handed in: the list is what was taken from the
 /// lanes, and nothing else. The lanes that come back may be served again.
-pub fn serve<R: Owing + Drop, C: Clock>(
+pub fn serve<R: Owing + Drop, C: LoopClock>(
     alloc: Global,
     service: Service<R>,
     lanes: Vec<LaneEnds>,
@@ -143,7 +143,7 @@ pub fn serve<R: Owing + Drop, C: Clock>(
         lanes,
         turns,
     };
-    let mut news = NoNews;
+    let mut news = NoRemoteChanges;
     serve_shared(alloc, served, clock, queue, &mut news).served
 }
 
@@ -156,7 +156,7 @@ pub fn serve<R: Owing + Drop, C: Clock>(
 /// change of the news, which that table could have. The lanes gave the events of the turns and were given their outcomes, as `serve` says it.
 ///
 /// If the table can't have the next change, this server has parted from the others. Then nothing more is served, and the change stays with the news.
-pub fn serve_shared<R: Owing + Drop, C: Clock, N: News>(
+pub fn serve_shared<R: Owing + Drop, C: LoopClock, N: RemoteChanges>(
     alloc: Global,
     served: Served<R>,
     clock: &mut C,
@@ -166,7 +166,7 @@ pub fn serve_shared<R: Owing + Drop, C: Clock, N: News>(
     requires { AreDistinct served.lanes.items }
     ensures shared { IsShared served.service.world served.lanes.items (N.taken news.old) result.served.service.world result.served.lanes.items (N.taken news.new) }
     ensures over { result.end ≡ SharedEnd.Over → (result.served.turns ≡ 0) ⊎ AllZip GaveEnd served.lanes.items result.served.lanes.items }
-    ensures parted { result.end ≡ SharedEnd.Parted → IsUnfit (N.seen news.new) result.served.service.world.table }
+    ensures parted { result.end ≡ SharedEnd.Diverged → IsUnfit (N.seen news.new) result.served.service.world.table }
     ensures distinct { AreDistinct result.served.lanes.items }
 {
     let Served {
@@ -178,16 +178,16 @@ pub fn serve_shared<R: Owing + Drop, C: Clock, N: News>(
     let mut lanes = lanes;
     let mut turns = turns;
     let mut ended = Vec::new(alloc);
-    let mut rota = Rota::new(alloc);
+    let mut schedule = Schedule::new(alloc);
     let mut is_handed_over = false;
     let mut has_worked = false;
     while turns > 0 && (has_worked || !have_ended(ended.as_slice(), lanes.len())) {
         let has_ended = machine.owed() == Owed::Ended;
-        let Ok(progress) = let_in_news(&mut machine, news, &mut is_handed_over) else {
-            return end_with(machine, lanes, turns, SharedEnd::Parted);
+        let Ok(progress) = apply_remote_changes(&mut machine, news, &mut is_handed_over) else {
+            return end_with(machine, lanes, turns, SharedEnd::Diverged);
         };
-        rota.most = turns.min(IN_A_ROW);
-        rota.seen = Seen {
+        schedule.most = turns.min(IN_A_ROW);
+        schedule.seen = Seen {
             has_ended,
             is_behind: progress.is_behind,
             is_cut: news.is_cut(),
@@ -198,7 +198,7 @@ pub fn serve_shared<R: Owing + Drop, C: Clock, N: News>(
             &mut ended,
             queue,
             clock,
-            &mut rota,
+            &mut schedule,
         );
         has_worked = progress.has_worked || served > 0;
         end_round(clock, has_worked);

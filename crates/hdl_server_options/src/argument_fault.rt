@@ -3,7 +3,7 @@
 use crate::invocation::OptionsFault;
 use clap::Error;
 use clap::error::ErrorKind;
-use hdl_programs::status_of_words;
+use hdl_programs::usage_status;
 use std::alloc::AllocError;
 
 /// Why the words ask for nothing.
@@ -71,7 +71,7 @@ fn print_help(rt: &HostRuntime, words: &[String], error: Error) -> Result<u8, Op
     report_input(rt, words, kind);
     match printed {
         Err(_) if is_help => Err(OptionsFault::Device),
-        _ => Ok(status_of_words(is_help)),
+        _ => Ok(usage_status(is_help)),
     }
 }
 
@@ -98,7 +98,7 @@ fn refuse_value(rt: &HostRuntime, word: &str, option: &str, reason: &str) -> u8 
     let _ = eprintln!(rt;
         "error: invalid value '{word}' for '{option}': {reason}\n\nFor more information, try '--help'."
     );
-    status_of_words(false)
+    usage_status(false)
 }
 
 /// Prints why these words ask for nothing, and answers the exit status.

@@ -6,7 +6,7 @@ use crate::invocation::{ExportOptions, ExportSource, Invocation, OptionsFault, T
 use crate::serving::{addresses, cluster, serve_options};
 use crate::values::{copy_of, required, table_file};
 use clap::ArgMatches;
-use hdl_programs::{status_of_words, words_of};
+use hdl_programs::{arguments_of, usage_status};
 use std::alloc::Global;
 
 /// What is asked for by the words after `copy`.
@@ -106,12 +106,12 @@ fn parse(alloc: Global, words: &[String]) -> Result<Invocation, ArgumentFault> {
 
 /// Reads the command line, and prints what there is to say of it.
 pub fn read_options(rt: &HostRuntime) -> Result<Invocation, OptionsFault> {
-    let Ok(words) = words_of(rt) else {
+    let Ok(words) = arguments_of(rt) else {
         // words that are no text, or no memory for them
         let _ = eprintln!(rt;
             "error: a word of the command line is not UTF-8, or there is no memory for it"
         );
-        return Ok(Invocation::Ended(status_of_words(false)));
+        return Ok(Invocation::Ended(usage_status(false)));
     };
     match parse(rt.alloc(), words.as_slice()) {
         Ok(asked) => Ok(asked),

@@ -1,7 +1,7 @@
 //! The machine's clock, and its pauses: short while what is waited for comes soon, and asleep otherwise.
 
 use crate::idle_poll::{IdlePoll, LoopWaker};
-use hdl_workers::Clock;
+use hdl_workers::LoopClock;
 use std::sync::Arc;
 use std::thread;
 use std::time::{Duration, Instant, SystemTime};
@@ -114,7 +114,7 @@ impl<R: std::rt::Clock> MachineClock<R> {
     }
 }
 
-impl<R: std::rt::Clock> Clock for MachineClock<R> {
+impl<R: std::rt::Clock> LoopClock for MachineClock<R> {
     ghost use Rattle.std.specs.Prelude.{false, []};
 
     ghost is_observed = { false };

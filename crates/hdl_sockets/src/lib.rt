@@ -12,7 +12,7 @@
 //!
 //! From a proxy that is named a connection begins with a header, which says whose it is ([`ListenerConfig`]).
 //!
-//! It stands on `hdl_workers`, whose traits it implements, on `hdl_trail` for the numbers of datagram peers, on `hdl_crowd` for what a crowd of connections keeps, and on `hdl_telemetry`, which reads along; neither
+//! It stands on `hdl_workers`, whose traits it implements, on `hdl_peers` for the numbers of datagram peers, on `hdl_overflow_lane` for what a crowd of connections keeps, and on `hdl_telemetry`, which reads along; neither
 //! on the machine nor on a table. No contract can say what a socket gives, so the doors here tell nothing, and nothing is promised of octets on a wire.
 //!
 //! ```rust
@@ -58,12 +58,12 @@
 mod acceptor;
 mod client_sockets;
 mod clock;
-mod crowd;
 mod door;
 mod error_reply;
 mod idle_poll;
 mod lane_listener;
 mod nonces;
+mod overflow;
 mod packets;
 mod progress;
 mod proxy_header;
@@ -74,11 +74,11 @@ mod timeouts;
 mod verified_addresses;
 
 pub use clock::{MachineClock, ThreadRole};
-pub use crowd::{OverflowDoor, OverflowLane};
 pub use door::SocketDoor;
 pub use idle_poll::{CallTimeouts, IdlePoll, LoopWaker};
 pub use lane_listener::{LaneListener, ListenerConfig, lane_listeners_at};
 pub use nonces::MachineNonces;
+pub use overflow::{OverflowDoor, OverflowLane};
 pub use packets::SocketPackets;
 pub use shutdown_flag::ShutdownFlag;
 pub use sockets::{PacketSocket, Sockets, is_no_data};

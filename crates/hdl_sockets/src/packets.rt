@@ -6,8 +6,8 @@ use crate::sockets::{PacketSocket, Sockets, is_no_data};
 use crate::verified_addresses::VerifiedAddresses;
 use hdl_frame::{ENVELOPE_LEN, Envelope};
 use hdl_limits::UNDER_WAY_MAX;
+use hdl_peers::Peers;
 use hdl_telemetry::{PacketRecorder, Recorder};
-use hdl_trail::Peers;
 use hdl_workers::{DoorFault, Packets};
 use std::alloc::Global;
 use std::io;
@@ -19,7 +19,7 @@ const SKIPPED_MOST: u32 = 64;
 
 /// Where a datagram came from: the place of the socket that received it, and the sender's address. The reply goes the same way.
 #[derive(Clone, Copy, Debug, PartialEq, Eq)]
-pub struct Sender {
+pub struct DatagramSender {
     place: usize,
     address: SocketAddr,
 }
@@ -40,8 +40,8 @@ enum ReplyState {
 struct DatagramSockets<R> {
     alloc: Global,
     sockets: Sockets<PacketSocket>,
-    peers: Peers<Sender>,
-    verified: VerifiedAddresses<R, Sender>,
+    peers: Peers<DatagramSender>,
+    verified: VerifiedAddresses<R, DatagramSender>,
     reply_state: ReplyState,
     shutdown: Arc<ShutdownFlag>,
     recorder: Option<PacketRecorder<R>>,
@@ -88,7 +88,7 @@ impl<R: std::rt::Clock + Drop> DatagramSockets<R> {
     }
 
     /// Sends octets back to where they are asked from. Whether they went.
-    fn send_back(&self, to: Sender, octets: &[u8]) -> bool {
+    fn send_back(&self, to: DatagramSender, octets: &[u8]) -> bool {
         match self.sockets.get(to.place) {
             Some(packets) => packets.send(octets, to.address),
             None => false,
@@ -97,7 +97,7 @@ impl<R: std::rt::Clock + Drop> DatagramSockets<R> {
 
     /// Whether the reply that begins with this datagram may go whole: it isn't much longer than what asked, or its address answered a challenge, perhaps
     /// by the very frame that it replies to.
-    fn permit_reply(&mut self, to: Sender, first: &[u8]) -> bool {
+    fn permit_reply(&mut self, to: DatagramSender, first: &[u8]) -> bool {
         let Some(packets) = self.sockets.get(to.place) else {
             return false;
         };
@@ -115,7 +115,7 @@ impl<R: std::rt::Clock + Drop> DatagramSockets<R> {
     }
 
     /// Sends another reply in place of the one that begins with this datagram. Memory that is refused is a lost datagram.
-    fn send_error_reply(&self, to: Sender, first: &[u8]) -> bool {
+    fn send_error_reply(&self, to: DatagramSender, first: &[u8]) -> bool {
         match too_long_reply(self.alloc, first) {
             Some(octets) => self.send_back(to, octets.as_slice()),
             None => true,
@@ -123,7 +123,7 @@ impl<R: std::rt::Clock + Drop> DatagramSockets<R> {
     }
 
     /// Begins a reply by its first datagram, or by another reply in its place. Whether that went.
-    fn begin(&mut self, to: Sender, first: &[u8]) -> bool {
+    fn begin(&mut self, to: DatagramSender, first: &[u8]) -> bool {
         if self.permit_reply(to, first) {
             self.reply_state = ReplyState::Sending;
             self.send_back(to, first)
@@ -134,7 +134,7 @@ impl<R: std::rt::Clock + Drop> DatagramSockets<R> {
     }
 
     /// Sends the next datagram of a reply, unless another reply went in its place. Whether what is sent went.
-    fn send_next(&mut self, to: Sender, octets: &[u8]) -> bool {
+    fn send_next(&mut self, to: DatagramSender, octets: &[u8]) -> bool {
         match self.reply_state {
             ReplyState::NotBegun => self.begin(to, octets),
             ReplyState::Sending => self.send_back(to, octets),
@@ -209,7 +209,7 @@ impl<R: std::rt::Clock + Drop> Packets for SocketPackets<R> {
             match self.post.take(buffer, may_wait) {
                 Ok((place, (length, address))) => {
                     let length = length.min(buffer.len());
-                    let from = Sender { place, address };
+                    let from = DatagramSender { place, address };
                     if let Ok(Some(peer)) = self.post.peers.note_octets(from, &buffer[..length]) {
                         self.post.note_request(peer, &buffer[..length]);
                         return Ok(Some((peer, length)));

@@ -8,7 +8,7 @@ use crate::{heads, memory, queries};
 use hdl_limits::Octets;
 use hdl_name::Name;
 use hdl_rows::reads::{found_octets, names_octets, seen_octets, values_octets, with_call};
-use hdl_rows::{Owed, Owing, Prompt, Refused, Rows};
+use hdl_rows::{Owed, Owing, Refused, Rows, Synchronous};
 use hdl_value::{Reference, Value};
 use sqlite::{Connection, MemStore};
 use std::alloc::Global;
@@ -156,7 +156,7 @@ impl Rows for SqlRows {
     }
 }
 
-impl Prompt for SqlRows {}
+impl Synchronous for SqlRows {}
 
 impl Owing for SqlRows {
     ghost use Rattle.hdl_rows.specs.Debt.{nothing};
@@ -171,5 +171,5 @@ impl Owing for SqlRows {
         Owed::Nothing
     }
 
-    fn let_write(&mut self, _may_write: bool) {}
+    fn set_may_write(&mut self, _may_write: bool) {}
 }

@@ -3,8 +3,8 @@
 use crate::fault::TableRunFault;
 use crate::opening::ServedFile;
 use crate::pair::{LogNote, close_with_note};
+use hdl_durablerows::{ShutObserver, TableFault};
 use hdl_eitherrows::EitherRows;
-use hdl_lastingrows::{Alarm, TableFault};
 use std::thread::Threads;
 
 /// What has a file, which is closed at the end.
@@ -13,7 +13,7 @@ pub trait Closing {
     fn close(self, rt: &HostRuntime, note: LogNote) -> Result<(), TableRunFault>;
 }
 
-impl<R: Threads + Drop, A: Alarm + Drop> Closing for ServedFile<R, A> {
+impl<R: Threads + Drop, A: ShutObserver + Drop> Closing for ServedFile<R, A> {
     fn close(self, rt: &HostRuntime, note: LogNote) -> Result<(), TableRunFault> {
         let Some(file) = self.into_file().into_file() else {
             return Err(TableRunFault::Table(TableFault::Device));

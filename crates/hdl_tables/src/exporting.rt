@@ -28,7 +28,7 @@ const MODE: u32 = 0o600;
 pub fn status_of(fault: &ExportFault) -> u8 {
     match fault {
         ExportFault::Given { .. } => 3,
-        ExportFault::Row | ExportFault::Unsayable | ExportFault::Written { .. } => 4,
+        ExportFault::Row | ExportFault::Inexpressible | ExportFault::Written { .. } => 4,
         ExportFault::Memory => Fault::NoMemory.status(),
         ExportFault::Store => Fault::StoreRefused.status(),
     }
@@ -36,12 +36,12 @@ pub fn status_of(fault: &ExportFault) -> u8 {
 
 /// Says on standard error how many handles the text doesn't say, and which are the first; answers the exit status.
 fn report_left_out(rt: &HostRuntime, left: &LeftOut) -> u8 {
-    if left.empty == 0 && left.unsayable == 0 {
+    if left.empty == 0 && left.inexpressible == 0 {
         return 0;
     }
-    let (empty, unsayable) = (left.empty, left.unsayable);
+    let (empty, inexpressible) = (left.empty, left.inexpressible);
     let _ = eprintln!(rt;
-        "export: left out, since a tenants text can't express them: {empty} handles without a value, {unsayable} with a space or line feed in the name, the first of them:"
+        "export: left out, since a tenants text can't express them: {empty} handles without a value, {inexpressible} with a space or line feed in the name, the first of them:"
     );
     for handle in &left.named {
         if let Ok(name) = str::from_utf8(handle.as_slice()) {

@@ -4,10 +4,10 @@ use crate::copying::CopyFault;
 use crate::exporting::{WriteFault, status_of};
 use crate::reasons::OpenReason;
 use crate::restoring::RestoreFault;
+use hdl_durablerows::TableFault;
 use hdl_export::ExportFault;
-use hdl_lastingrows::TableFault;
-use hdl_pairs::{LookFault, PairFault};
 use hdl_programs::Fault;
+use hdl_wal_check::{PairFault, SummaryFault};
 use std::fmt;
 
 /// Why a run over a table ends with a fault line.
@@ -114,11 +114,11 @@ impl From<TableFault> for TableRunFault {
 }
 
 /// A file or a log can't be looked at.
-impl From<LookFault> for TableRunFault {
-    fn from(fault: LookFault) -> TableRunFault {
+impl From<SummaryFault> for TableRunFault {
+    fn from(fault: SummaryFault) -> TableRunFault {
         match fault {
-            LookFault::Memory => TableRunFault::Run(Fault::NoMemory),
-            LookFault::Device(_) => TableRunFault::Table(TableFault::Device),
+            SummaryFault::Memory => TableRunFault::Run(Fault::NoMemory),
+            SummaryFault::Device(_) => TableRunFault::Table(TableFault::Device),
         }
     }
 }

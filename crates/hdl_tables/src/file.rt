@@ -4,7 +4,7 @@ use crate::closing::Closing;
 use crate::fault::TableRunFault;
 use crate::opening::{TablePath, open_served};
 use hdl_core::Owing;
-use hdl_lastingrows::{Alarm, TableFault};
+use hdl_durablerows::{ShutObserver, TableFault};
 use hdl_sqlrows::load::Progress;
 use hdl_tenants::Tenants;
 use std::thread::Threads;
@@ -33,13 +33,13 @@ fn as_read(fault: TableRunFault) -> TableRunFault {
 }
 
 /// Does this over the table in the file.
-pub fn run_over_file<R: Threads + Drop, A: Alarm + Progress + Drop, W: FileWork>(
+pub fn run_over_file<R: Threads + Drop, A: ShutObserver + Progress + Drop, W: FileWork>(
     machine: R,
     rt: &HostRuntime,
     file: TablePath<'_>,
-    alarm: A,
+    observer: A,
     work: W,
 ) -> Result<u8, TableRunFault> {
-    let table = open_served(machine, rt, file, work.tenants(), alarm, false).map_err(as_read)?;
+    let table = open_served(machine, rt, file, work.tenants(), observer, false).map_err(as_read)?;
     work.run(rt, table)
 }

@@ -8,7 +8,7 @@
 //! restore_table -> such a copy, checked, in the place of the file
 //! ```
 //!
-//! Before the file is opened, it and the log beside it are judged by `hdl_pairs`; what is refused is opened only where its loss is given up. The log of one that is
+//! Before the file is opened, it and the log beside it are judged by `hdl_wal_check`; what is refused is opened only where its loss is given up. The log of one that is
 //! served is moved into it at the start: where [`log_state`] says that something may stand there alone, the program closes the table behind its open, and opens it again.
 //!
 //! It is the program's part: what is not said in a clause is safe, and no more is promised. It stands in a crate of its own, which knows no sockets, so that it is proved

@@ -5,16 +5,18 @@ ghost use Rattle.sqlite.specs.State.{HasCleanDisk};
 ghost use Rattle.sqlite.specs.Files.{file_state};
 ghost use Rattle.hdl_rows.specs.Table.{no_rows};
 ghost use Rattle.hdl_sqlrows.specs.Filed.{WhereOpen};
-ghost use Rattle.hdl_lastingrows.specs.Beside.{IfHere};
-ghost use Rattle.hdl_lastingrows.specs.Opened.{IsOpenedIn};
+ghost use Rattle.hdl_durablerows.specs.Threaded.{IfHere};
+ghost use Rattle.hdl_durablerows.specs.Opened.{IsOpenedIn};
 ghost use Rattle.hdl_tables.specs.Served.{IsSecond};
 
 use crate::fault::TableRunFault;
 use crate::pair::open_checked;
 use hdl_cachedrows::CachedRows;
 use hdl_core::Rows;
+use hdl_durablerows::{
+    DurableRows, ShutObserver, Store, TableFault, ThreadedFile, WriterThreads, table_with_threads,
+};
 use hdl_eitherrows::EitherRows;
-use hdl_lastingrows::{Alarm, LastingRows, Store, TableFault, ThreadedFile, Writer, table_beside};
 use hdl_programs::Fault;
 use hdl_rows::PlainRows;
 use hdl_sqlrows::SqlRows;
@@ -37,13 +39,13 @@ pub struct TablePath<'a> {
 }
 
 /// The table in memory whose rows are also in a file.
-pub type ServedFile<R, A> = LastingRows<PlainRows, ThreadedFile<R>, A>;
+pub type ServedFile<R, A> = DurableRows<PlainRows, ThreadedFile<R>, A>;
 
 /// The table of a run, whose threads `R` starts, and of whose file `A` hears. It is one type, so that the program has one machine.
 pub type Table<R, A> = EitherRows<CachedRows<SqlRows>, ServedFile<R, A>>;
 
 /// An empty table in SQL, in memory, with a cache of at most `row_cache` octets.
-pub fn empty_table<R: Threads + Drop, A: Alarm + Drop>(
+pub fn empty_table<R: Threads + Drop, A: ShutObserver + Drop>(
     rt: &HostRuntime,
     row_cache: usize,
 ) -> Result<Table<R, A>, Fault>
@@ -61,41 +63,41 @@ pub fn empty_table<R: Threads + Drop, A: Alarm + Drop>(
 
 /// The table in the database of a file: what that has, with each handle of the text that was never opened there. If writes are made beside
 /// the calls, a thread makes them.
-pub fn table_in<R: Threads + Drop, A: Alarm + Progress + Drop>(
+pub fn table_in<R: Threads + Drop, A: ShutObserver + Progress + Drop>(
     machine: R,
     alloc: Global,
     conn: Connection<Store>,
     tenants: &Tenants,
-    alarm: A,
-    beside: bool,
+    observer: A,
+    is_threaded: bool,
 ) -> Result<Table<R, A>, TableFault>
     requires mode { conn.in_transaction ≡ false }
     requires even { WhereOpen (file_state conn) ((file_state conn).committed ≡ (file_state conn).now) }
     ensures opened { IfOk result (λ table. IsSecond table (λ rows. IfHere rows.file.place (λ s. HasCleanDisk s → IsOpenedIn (file_state conn) tenants.now.opening rows.table))) }
 {
     let memory = (PlainRows::new(alloc), PlainRows::new(alloc));
-    let writer = Writer {
+    let writer = WriterThreads {
         rt: machine,
         alloc,
-        beside,
+        is_threaded,
     };
     let opening = tenants.opening();
-    let rows = table_beside(conn, memory, opening, alarm, writer)?;
+    let rows = table_with_threads(conn, memory, opening, observer, writer)?;
     Ok(EitherRows::Second(rows))
 }
 
-/// The table in the file at a path, as [`table_in`] tells it of what [`hdl_lastingrows::open_file`] found there, once the file and its log were judged. An open that is
+/// The table in the file at a path, as [`table_in`] tells it of what [`hdl_durablerows::open_file`] found there, once the file and its log were judged. An open that is
 /// refused says why.
-pub fn open_served<R: Threads + Drop, A: Alarm + Progress + Drop>(
+pub fn open_served<R: Threads + Drop, A: ShutObserver + Progress + Drop>(
     machine: R,
     rt: &HostRuntime,
     file: TablePath<'_>,
     tenants: &Tenants,
-    alarm: A,
-    beside: bool,
+    observer: A,
+    is_threaded: bool,
 ) -> Result<Table<R, A>, TableRunFault> {
     let conn = open_checked(rt, &file)?;
-    Ok(table_in(machine, rt.alloc(), conn, tenants, alarm, beside)?)
+    Ok(table_in(machine, rt.alloc(), conn, tenants, observer, is_threaded)?)
 }
 
 /// Whether nothing can be opened at this path of a table's file yet.

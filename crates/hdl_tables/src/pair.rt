@@ -8,12 +8,12 @@ use crate::fault::TableRunFault;
 use crate::opening::TablePath;
 use crate::paths::Paths;
 use crate::reasons::{OpenReason, open_fault};
-use hdl_lastingrows::{Store, TableFault, open_file};
-use hdl_pairs::{
-    FIRST_NOTE, FRONT, FileLook, Found, LogLook, LookFault, PairFault, Verdict, WHOLE, file_look,
-    is_settled, judge, log_look,
-};
+use hdl_durablerows::{Store, TableFault, open_file};
 use hdl_programs::Fault;
+use hdl_wal_check::{
+    FILE_HEADER_LEN, FIRST_NOTE, FileSummary, Found, LogSummary, PairFault, SummaryFault, Verdict,
+    WHOLE, is_settled, judge, summarize_file, summarize_log,
+};
 use sqlite::{Alter, Connection, FileFrom, Files, Wary};
 use sqlite_std_file::OpenError;
 use sqlite_trees::error::StoreError;
@@ -44,48 +44,52 @@ pub enum LogNote {
 /// What is known of a file and of the log beside it.
 #[derive(Clone, Copy)]
 struct Inspected {
-    file: FileLook,
-    log: LogLook,
+    file: FileSummary,
+    log: LogSummary,
 }
 
 /// What is known of the file at a path. One that can't be read is left to the open, which says why.
-fn inspect_file(rt: &HostRuntime, path: &str) -> FileLook {
+fn inspect_file(rt: &HostRuntime, path: &str) -> FileSummary {
     let mut file = match File::open(rt, path) {
         Ok(file) => file,
-        Err(e) if e.kind() == ErrorKind::NotFound => return FileLook::Nothing,
-        Err(_) => return FileLook::Other,
+        Err(e) if e.kind() == ErrorKind::NotFound => return FileSummary::Nothing,
+        Err(_) => return FileSummary::Other,
     };
-    let mut front = [0; FRONT];
+    let mut front = [0; FILE_HEADER_LEN];
     match file.read_exact(&mut front) {
-        Ok(()) => file_look(&front),
-        Err(e) if e.kind() == ErrorKind::UnexpectedEof => FileLook::Nothing,
-        Err(_) => FileLook::Other,
+        Ok(()) => summarize_file(&front),
+        Err(e) if e.kind() == ErrorKind::UnexpectedEof => FileSummary::Nothing,
+        Err(_) => FileSummary::Other,
     }
 }
 
-fn read_log(rt: &HostRuntime, file: File, note: u32) -> Result<LogLook, LookFault> {
+fn read_log(rt: &HostRuntime, file: File, note: u32) -> Result<LogSummary, SummaryFault> {
     let length = file.metadata()?.len();
     let mut input = BufReader::new(rt.alloc(), file)?;
-    log_look(rt.alloc(), &mut input, length, note)
+    summarize_log(rt.alloc(), &mut input, length, note)
 }
 
 /// What is known of the log at a path, next to a file of which this is known.
-fn inspect_log(rt: &HostRuntime, path: &str, beside: &FileLook) -> Result<LogLook, LookFault> {
+fn inspect_log(
+    rt: &HostRuntime,
+    path: &str,
+    beside: &FileSummary,
+) -> Result<LogSummary, SummaryFault> {
     let note = match beside {
-        FileLook::Noted(note) => *note,
+        FileSummary::Noted(note) => *note,
         _ => 0,
     };
     match File::open(rt, path) {
         Ok(file) => read_log(rt, file, note),
-        Err(e) if e.kind() == ErrorKind::NotFound => Ok(LogLook::Nothing),
-        Err(e) => Err(LookFault::from(e)),
+        Err(e) if e.kind() == ErrorKind::NotFound => Ok(LogSummary::Nothing),
+        Err(e) => Err(SummaryFault::from(e)),
     }
 }
 
 /// What is left to the open, which says what is wrong.
 const UNKNOWN: Inspected = Inspected {
-    file: FileLook::Other,
-    log: LogLook::Nothing,
+    file: FileSummary::Other,
+    log: LogSummary::Nothing,
 };
 
 /// Whether there is something at a path that is no file, as a pipe, which an open would wait for.
@@ -104,9 +108,9 @@ fn inspect(rt: &HostRuntime, paths: &Paths) -> Result<Inspected, TableRunFault> 
     let file = inspect_file(rt, &paths.file);
     match inspect_log(rt, &paths.log, &file) {
         Ok(log) => Ok(Inspected { file, log }),
-        Err(LookFault::Memory) => Err(TableRunFault::from(Fault::NoMemory)),
-        Err(LookFault::Device(ErrorKind::PermissionDenied)) => Ok(UNKNOWN),
-        Err(LookFault::Device(_)) => Err(TableRunFault::from(TableFault::Device)),
+        Err(SummaryFault::Memory) => Err(TableRunFault::from(Fault::NoMemory)),
+        Err(SummaryFault::Device(ErrorKind::PermissionDenied)) => Ok(UNKNOWN),
+        Err(SummaryFault::Device(_)) => Err(TableRunFault::from(TableFault::Device)),
     }
 }
 
@@ -117,7 +121,7 @@ impl Inspected {
 
     fn needs_log(&self) -> bool {
         match self.file {
-            FileLook::Noted(note) => FIRST_NOTE <= note,
+            FileSummary::Noted(note) => FIRST_NOTE <= note,
             _ => false,
         }
     }
@@ -125,7 +129,7 @@ impl Inspected {
     /// Whether the file has no note of its log, as earlier versions left it.
     fn has_no_note(&self) -> bool {
         match self.file {
-            FileLook::Noted(note) => note != WHOLE && note < FIRST_NOTE,
+            FileSummary::Noted(note) => note != WHOLE && note < FIRST_NOTE,
             _ => false,
         }
     }
@@ -190,7 +194,7 @@ fn set_log_aside(rt: &HostRuntime, paths: &Paths) -> Result<(), TableRunFault> {
         return Err(TableRunFault::Unopened(OpenReason::Lost));
     }
     if let Err(e) = fs::rename(rt, &paths.log, &paths.lost) {
-        return Err(TableRunFault::from(LookFault::from(e)));
+        return Err(TableRunFault::from(SummaryFault::from(e)));
     }
     let lost = paths.lost.as_str();
     let _ = eprintln!(rt; "table: the log that lay there is {lost} now");

@@ -15,7 +15,7 @@
 //! line that can't be written is lost, which is counted and said.
 //!
 //! ```rust
-//! // crates/hdl_sockets/src/crowd.rt
+//! // crates/hdl_sockets/src/overflow.rt
 //! if let Some(recorder) = &mut self.recorder {
 //!     if let Some(entry) = recorder.note_reply(peer, octets) {
 //!         recorder.put(self.lane.last_client(), &entry);

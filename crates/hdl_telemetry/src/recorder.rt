@@ -169,7 +169,7 @@ impl<R: Clock + Drop> PacketRecorder<R> {
         }
         let question = self.recorder.follower.question(peer, frame);
         if self.waiting.push_back(question).is_err() {
-            self.recorder.follower.lose();
+            self.recorder.follower.mark_uncertain();
         }
     }
 

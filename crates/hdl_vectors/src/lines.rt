@@ -3,8 +3,8 @@
 ghost use Rattle.hdl_value.specs.Spelling.{CanBeSpelt};
 
 use crate::octets::{put_hex, put_text};
-use hdl_lines::{read_value_line, value_line};
 use hdl_value::{Value, write_value};
+use hdl_value_lines::{read_value_line, value_line};
 use std::io;
 
 /// Prints the octets of a value, and its line as it is written.

@@ -16,7 +16,7 @@ use hdl_forms::{
 };
 use hdl_msg::ResponseCode;
 use hdl_proxy::{Status, refusal};
-use hdl_writes::Order;
+use hdl_rest::Order;
 use http_body_util::{Collected, LimitedError};
 use std::alloc::{AllocError, Global};
 use std::sync::{Arc, Wait};

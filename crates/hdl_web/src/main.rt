@@ -35,7 +35,7 @@ mod workers;
 mod write_timeout;
 
 use event_loop::listen_at;
-use hdl_copied::{CopiedHandles, read_copy};
+use hdl_copied_handles::{CopiedHandles, read_copy};
 use hdl_proxy::{Site, is_site_address};
 use hdl_routes::{Route, read_route};
 use log::Log;

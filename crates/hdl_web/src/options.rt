@@ -1,7 +1,7 @@
 //! The words of the command line.
 
 use clap::{Arg, ArgAction, ArgMatches, Command, Error, value_parser};
-use hdl_programs::{VERSION, status_of_words, words_of};
+use hdl_programs::{VERSION, arguments_of, usage_status};
 use std::alloc::{AllocError, Global};
 
 /// How the program is called: ./hdl starts it where its first word is `proxy`.
@@ -155,7 +155,7 @@ fn site_args<'a>(alloc: Global, command: Command<'a>) -> Result<Command<'a>, All
 }
 
 /// The options that say what it keeps, and where it tells of visits.
-fn keeping_args<'a>(alloc: Global, command: Command<'a>) -> Result<Command<'a>, AllocError> {
+fn caching_args<'a>(alloc: Global, command: Command<'a>) -> Result<Command<'a>, AllocError> {
     command
         .arg(option(
             alloc,
@@ -205,7 +205,7 @@ fn command<'a>(alloc: Global) -> Result<Command<'a>, AllocError> {
         .bin_name(NAME)?
         .about("Redirects browsers from a handle's address to its URL");
     let command = asking_args(alloc, listening_args(alloc, command)?)?;
-    writing_args(alloc, keeping_args(alloc, site_args(alloc, command)?)?)
+    writing_args(alloc, caching_args(alloc, site_args(alloc, command)?)?)
 }
 
 /// These words, each as a text of its own.
@@ -264,7 +264,7 @@ fn parse(alloc: Global, words: &[String]) -> Result<ProxyOptions, Error> {
 
 /// Reads the command line, and prints what `clap` has to say of it.
 pub fn read_arguments(rt: &HostRuntime) -> Invocation {
-    let Ok(words) = words_of(rt) else {
+    let Ok(words) = arguments_of(rt) else {
         let _ = eprintln!(rt;
             "error: a word of the command line is not UTF-8, or there is no memory for it"
         );
@@ -276,7 +276,7 @@ pub fn read_arguments(rt: &HostRuntime) -> Invocation {
             let is_help = !error.use_stderr();
             match error.print(rt) {
                 Err(_) if is_help => Invocation::Ended(1),
-                _ => Invocation::Ended(status_of_words(is_help)),
+                _ => Invocation::Ended(usage_status(is_help)),
             }
         }
     }

@@ -5,7 +5,7 @@ ghost use Rattle.http.specs.Response.{head_of};
 ghost use Rattle.hdl_proxy.specs.Status.{status_number};
 
 use bytes::Bytes;
-use hdl_proxy::{Answer, Keeping, Media, Status};
+use hdl_proxy::{Answer, CacheControl, Media, Status};
 use hdl_routes::LEFT_OUT_MILLIS;
 use http::StatusCode;
 use http::header::{
@@ -87,8 +87,8 @@ fn put_json(headers: &mut HeaderMap<HeaderValue>) -> Result<(), AllocError> {
 }
 
 /// What a page of this lifetime may load, and where its forms lead.
-fn policy_of(keeping: Keeping, changes: bool) -> HeaderValue {
-    if changes && keeping == Keeping::Never {
+fn policy_of(cache_control: CacheControl, changes: bool) -> HeaderValue {
+    if changes && cache_control == CacheControl::Never {
         HeaderValue::from_static(FORM_POLICY)
     } else {
         HeaderValue::from_static(POLICY)
@@ -107,7 +107,7 @@ fn put_media(
     )?;
     match media {
         Media::Page => put_page(headers, true, policy),
-        Media::Way => put_page(headers, false, policy),
+        Media::Redirect => put_page(headers, false, policy),
         Media::Json => put_json(headers),
         Media::Text => {
             let plain = HeaderValue::from_static("text/plain; charset=utf-8");
@@ -169,14 +169,14 @@ fn put_status(
     }
 }
 
-fn put_keeping(
+fn put_cache_control(
     alloc: Global,
     headers: &mut HeaderMap<HeaderValue>,
-    keeping: Keeping,
+    cache_control: CacheControl,
 ) -> Result<(), AllocError> {
-    match keeping {
-        Keeping::Never => put(headers, CACHE_CONTROL, HeaderValue::from_static("no-store")),
-        Keeping::Seconds(seconds) => {
+    match cache_control {
+        CacheControl::Never => put(headers, CACHE_CONTROL, HeaderValue::from_static("no-store")),
+        CacheControl::Seconds(seconds) => {
             let text = format!(in alloc; "max-age={seconds}")?;
             put_text(alloc, headers, CACHE_CONTROL, text.as_str())
         }
@@ -190,10 +190,10 @@ pub(crate) fn headers_of(
     changes: bool,
 ) -> Result<HeaderMap<HeaderValue>, AllocError> {
     let mut headers = HeaderMap::new(alloc);
-    let policy = policy_of(answer.keeping, changes);
+    let policy = policy_of(answer.cache_control, changes);
     put_media(&mut headers, answer.media, policy)?;
     put_status(alloc, &mut headers, answer, changes)?;
-    put_keeping(alloc, &mut headers, answer.keeping)?;
+    put_cache_control(alloc, &mut headers, answer.cache_control)?;
     if let Some(tag) = &answer.tag {
         put_text(alloc, &mut headers, ETAG, tag.as_str())?;
     }

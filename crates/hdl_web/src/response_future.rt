@@ -12,7 +12,7 @@ use crate::text::ProxyText;
 use bytes::Bytes;
 use futures::task::{Context, Poll};
 use futures::{Future, ready};
-use hdl_forms::{Offer, with_offer};
+use hdl_forms::{FormLink, with_form_link};
 use hdl_proxy::{Answer, Site, with_tag};
 use http_body_util::Full;
 use hyper::Response;
@@ -29,14 +29,14 @@ pub(crate) struct ResponseContext {
     /// Whether handles are changed here.
     pub(crate) changes: bool,
     /// The form to which a page at this address leads then.
-    pub(crate) offer: Offer,
+    pub(crate) form_link: FormLink,
 }
 
 impl ResponseContext {
     /// An answer as the client gets it: a page as the site gives it, or that the client has it already.
     fn answer(&self, alloc: Global, answer: Answer) -> Result<Answer, AllocError> {
         let answer = if self.changes {
-            with_offer(alloc, self.offer, answer)?
+            with_form_link(alloc, self.form_link, answer)?
         } else {
             answer
         };

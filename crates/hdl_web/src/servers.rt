@@ -1,11 +1,11 @@
 //! Servers, and the connections to them.
 
 use hdl_client::{ClientFault, Connection, Key, Reply, Session, connect_within};
-use hdl_copied::CopiedHandles;
+use hdl_copied_handles::CopiedHandles;
 use hdl_limits::Octets;
 use hdl_msg::{RequestBody, ResponseCode};
+use hdl_rest::{ChangeServer, NoReply, SUFFIX_LEN};
 use hdl_value::Wire;
-use hdl_writes::{ChangeServer, NoReply, SUFFIX_LEN};
 use rand::RngExt;
 use rand::rngs::StdRng;
 use std::alloc::AllocError;

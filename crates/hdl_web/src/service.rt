@@ -10,11 +10,11 @@ use crate::shared::Shared;
 use crate::text::{ProxyText, TextKind};
 use bytes::Bytes;
 use hdl_forms::{
-    FormPlace, LIST_ADDRESS, ListRequest, Offer, Sender, form_at, form_question, list_at,
-    list_form, new_page, refuse_foreign,
+    FormLink, FormPlace, LIST_ADDRESS, ListRequest, Sender, form_at, form_question, list_at,
+    list_form, new_page, refuse_cross_origin,
 };
 use hdl_proxy::{Next, begin};
-use hdl_writes::{Begun, SentRequest, begin_with_key};
+use hdl_rest::{ParsedRequest, SentRequest, begin_with_key};
 use http::header::{AUTHORIZATION, AsHeaderName, HOST, IF_NONE_MATCH, ORIGIN};
 use http_body_util::combinators::Collect;
 use http_body_util::{BodyExt, Full, Limited};
@@ -82,11 +82,11 @@ fn sender_of<B>(req: &Request<B>) -> Sender<'_> {
 }
 
 /// The form to which a page leads that has this address; also that of lists, if there are any.
-fn offer_at(path: &str, has_lists: bool) -> Offer {
+fn form_link_at(path: &str, has_lists: bool) -> FormLink {
     match path {
-        "/" if has_lists => Offer::CreateOrList,
-        "/" => Offer::Create,
-        _ => Offer::Change,
+        "/" if has_lists => FormLink::CreateOrList,
+        "/" => FormLink::Create,
+        _ => FormLink::Change,
     }
 }
 
@@ -134,12 +134,12 @@ impl<R: Wait + Clock + Copy + Drop> ProxyService<R> {
             return Ok(Start::Progress(self.take(sent)?));
         }
         match begin_with_key(self.alloc, sent)? {
-            Begun::Answer(answer) => Ok(Start::Progress(Progress::Answered(Ok(answer)))),
-            Begun::Other => Ok(Start::Progress(self.take(sent)?)),
-            Begun::Order(order) if order.takes_body() => {
+            ParsedRequest::Answer(answer) => Ok(Start::Progress(Progress::Answered(Ok(answer)))),
+            ParsedRequest::Other => Ok(Start::Progress(self.take(sent)?)),
+            ParsedRequest::Order(order) if order.takes_body() => {
                 Ok(Start::Body(Purpose::Order(order), self.change_queue()?))
             }
-            Begun::Order(order) => Ok(Start::Progress(
+            ParsedRequest::Order(order) => Ok(Start::Progress(
                 self.change_queue()?.take(order, Bytes::new()),
             )),
         }
@@ -199,7 +199,7 @@ impl<R: Wait + Clock + Copy + Drop> ProxyService<R> {
         address: &'static str,
         purpose: Purpose,
     ) -> Result<Start<R>, AllocError> {
-        match refuse_foreign(self.alloc, address, sender_of(req))? {
+        match refuse_cross_origin(self.alloc, address, sender_of(req))? {
             Some(answer) => Ok(Start::Progress(Progress::Answered(Ok(answer)))),
             None => Ok(Start::Body(purpose, self.change_queue()?)),
         }
@@ -238,7 +238,7 @@ impl<R: Wait + Clock + Copy + Drop> ProxyService<R> {
             site: Arc::try_clone(&self.shared.site)?,
             known,
             changes: self.shared.writes,
-            offer: offer_at(req.uri().path(), self.shared.copied.is_some()),
+            form_link: form_link_at(req.uri().path(), self.shared.copied.is_some()),
         })
     }
 

@@ -13,7 +13,7 @@ use crate::worker::ChangeJob;
 use crossbeam_channel::Sender;
 use futures::channel::oneshot;
 use hdl_client::{ClientFault, Reply};
-use hdl_copied::{CopiedHandles, ListedHandle};
+use hdl_copied_handles::{CopiedHandles, ListedHandle};
 use hdl_forms::TokenKey;
 use hdl_msg::ResponseCode;
 use hdl_name::Name;

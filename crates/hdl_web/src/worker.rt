@@ -7,7 +7,7 @@ use bytes::Bytes;
 use crossbeam_channel::Receiver;
 use futures::channel::oneshot;
 use hdl_forms::{FilledForm, ListRequest, carry_form, carry_list, refused_list, result_page};
-use hdl_writes::{Order, carry_out};
+use hdl_rest::{Order, carry_out};
 use std::alloc::Global;
 use std::sync::Wait;
 use std::time::Clock;

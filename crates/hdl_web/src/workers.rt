@@ -10,7 +10,7 @@ use crate::shared::{Shared, Upstream};
 use crate::standbys::{Notice, Standbys};
 use crate::worker::{ChangeJob, run_change_worker, run_upstream_worker};
 use crossbeam_channel::{Receiver, Sender, unbounded};
-use hdl_copied::CopiedHandles;
+use hdl_copied_handles::CopiedHandles;
 use hdl_forms::TokenKey;
 use hdl_proxy::Site;
 use hdl_routes::{Route, ServerHealth};

@@ -5,7 +5,7 @@ use Rattle.std.specs.List.{flat_map}
 use Rattle.hdl_workers.specs.declared.item.Item.{Item}
 use Rattle.hdl_workers.specs.Door.{Takes, Gives}
 use Rattle.hdl_workers.specs.declared.item.Item.TheVariants.{End}
-use Rattle.hdl_workers.specs.declared.door.Clock
+use Rattle.hdl_workers.specs.declared.door.LoopClock
 use Rattle.hdl_workers.specs.declared.door.Nonces
 use Rattle.hdl_workers.specs.Stamps.{StampsUsed}
 use Rattle.hdl_workers.specs.Sign.{AllUsed, WithEnd, moment_of, moments_of, nonce_of, nonces_of, MomentsUsed, NoncesUsed}
@@ -68,7 +68,7 @@ nonces_all g p g' p' p'' used e f =
     rw placed used.given
 
 -- both at once
-module _ {C N : Type 0} (c : Clock.Ghosts C) (n : Nonces.Ghosts N) where
+module _ {C N : Type 0} (c : LoopClock.Ghosts C) (n : Nonces.Ghosts N) where
   pub stamps_both : (x y z : C × N × List Item) → StampsUsed c n x y → StampsUsed c n y z → StampsUsed c n x z
   stamps_both x y z a b = record {
     moments = λ t. used_both _ _ _ _ _ _ _ (a.moments t) (b.moments t);

@@ -9,22 +9,22 @@ ghost use Rattle.hdl_workers.specs.Relaying.{Relays};
 use crate::relay::relay;
 use crate::worker::{Stop, spend};
 use crate::worker_lane::WorkerLane;
-use crate::{Clock, Door};
+use crate::{Door, LoopClock};
 use hdl_limits::Octets;
 use std::time::Duration;
 
 /// For how many seconds memory for what a connection sent is waited for.
-const PATIENCE: u64 = 1;
+const MEMORY_WAIT_SECONDS: u64 = 1;
 
 /// Memory was refused where nothing is owed to the peer. It pauses, or gives the connection up if the wait took a second.
-pub(crate) fn await_memory<D: Door, C: Clock>(door: &mut D, clock: &mut C) -> Result<(), Stop>
+pub(crate) fn await_memory<D: Door, C: LoopClock>(door: &mut D, clock: &mut C) -> Result<(), Stop>
     ensures connection { StaysOpen D.Door door.old door.new }
     ensures same { OnOk result (door.new ≡ door.old) }
     ensures kept { IsTrue D.is_observed → ((D.current door.new).read ≡ (D.current door.old).read) × ((D.current door.new).written ≡ (D.current door.old).written) }
     ensures broken { IsTrue D.is_observed → IfErr result (λ stop. stop ≡ Broken → (D.current door.new).broken ≡ true) }
     ensures answers { IsTrue C.is_observed → C.answers clock.new ≡ C.answers clock.old }
 {
-    if clock.waited() >= Duration::from_secs(PATIENCE) {
+    if clock.waited() >= Duration::from_secs(MEMORY_WAIT_SECONDS) {
         door.give_up();
         return Err(Stop::Broken);
     }
@@ -33,7 +33,7 @@ pub(crate) fn await_memory<D: Door, C: Clock>(door: &mut D, clock: &mut C) -> Re
 }
 
 /// Memory for a frame was refused. What is owed is written first, as outcomes come; it gives back memory too.
-fn await_memory_for_frame<D: Door, C: Clock>(
+fn await_memory_for_frame<D: Door, C: LoopClock>(
     door: &mut D,
     line: &mut WorkerLane,
     clock: &mut C,
@@ -53,7 +53,7 @@ fn await_memory_for_frame<D: Door, C: Clock>(
 }
 
 /// A copy of the octets. Where memory for it is refused it waits before it tries again.
-pub(crate) fn copy<D: Door, C: Clock>(
+pub(crate) fn copy<D: Door, C: LoopClock>(
     door: &mut D,
     line: &mut WorkerLane,
     clock: &mut C,

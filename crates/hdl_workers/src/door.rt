@@ -75,7 +75,7 @@ pub trait Door {
 }
 
 /// Moments in milliseconds, and a pause.
-pub trait Clock {
+pub trait LoopClock {
     /// Whether contracts may speak of the answers. Of a clock that is not observed no clause names a moment.
     ghost is_observed: { Bool };
 

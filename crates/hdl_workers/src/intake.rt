@@ -7,7 +7,7 @@ ghost use Rattle.hdl_workers.specs.Going.{StaysOpen};
 
 use crate::copies::await_memory;
 use crate::worker::{Stop, spend};
-use crate::{Clock, Door};
+use crate::{Door, LoopClock};
 use hdl_frame::Cutter;
 use std::alloc::Global;
 
@@ -33,7 +33,7 @@ impl Intake {
     }
 
     /// Reads once, and feeds the cutter. Whether octets came. Where memory for them is refused it waits before it tries again.
-    pub(crate) fn hear<D: Door, C: Clock>(
+    pub(crate) fn hear<D: Door, C: LoopClock>(
         &mut self,
         door: &mut D,
         clock: &mut C,

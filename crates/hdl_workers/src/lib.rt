@@ -12,7 +12,7 @@
 //! Promised of a worker, over a door that is observed: every frame of what came is put, in order, with one moment and one nonce of its
 //! own, and what was written is the outcomes' octets. [`LaneEnds::settle`] gives what is left once both threads of a lane were joined.
 //!
-//! Nothing here takes a lock or waits for anyone: what finds nothing pauses by the caller's [`Clock`], and all is bounded by a
+//! Nothing here takes a lock or waits for anyone: what finds nothing pauses by the caller's [`LoopClock`], and all is bounded by a
 //! number of turns. There are doors, a clock and nonces in memory, of whose calls a given one fails.
 //!
 //! ```rust
@@ -58,7 +58,7 @@ mod worker;
 mod worker_lane;
 mod worker_side;
 
-pub use door::{Clock, Door, DoorFault, Nonces, Packets};
+pub use door::{Door, DoorFault, LoopClock, Nonces, Packets};
 pub use ends::LaneEnds;
 pub use hdl_events::{Outcome, What};
 pub use item::Item;

@@ -16,7 +16,7 @@ ghost use Rattle.hdl_workers.specs.Mail.{to_peer, SendsReply, BeginsReply, Sends
 use crate::relay::octets_of;
 use crate::worker::{EndReason, WorkerEnd, finish, open, spend};
 use crate::worker_lane::WorkerLane;
-use crate::{Clock, DoorFault, Nonces, Packets, WorkerSide};
+use crate::{DoorFault, LoopClock, Nonces, Packets, WorkerSide};
 use arrayvec::ArrayVec;
 use hdl_events::{Outcome, What};
 use hdl_frame::{ENVELOPE_LEN, one_datagram, pieces};
@@ -79,7 +79,7 @@ fn send_reply<P: Packets>(packets: &mut P, peer: u16, octets: &[u8], turns: &mut
 }
 
 /// Puts a frame, with the next moment and nonce, when no outcome is waited for.
-fn put_frame<C: Clock, N: Nonces>(
+fn put_frame<C: LoopClock, N: Nonces>(
     line: &mut WorkerLane,
     clock: &mut C,
     nonces: &mut N,
@@ -90,7 +90,7 @@ fn put_frame<C: Clock, N: Nonces>(
     ensures taken { taken_by line.new ≡ taken_by line.old }
     ensures put { IsTrue result → PutOne (framed peer bytes) (put_by line.old) (put_by line.new) }
     ensures unchanged { IsFalse result → put_by line.new ≡ put_by line.old }
-    ensures stamps { StampsUsed C.Clock N.Nonces (clock.old, nonces.old, put_by line.old) (clock.new, nonces.new, put_by line.new) }
+    ensures stamps { StampsUsed C.LoopClock N.Nonces (clock.old, nonces.old, put_by line.old) (clock.new, nonces.new, put_by line.new) }
 {
     while spend(&mut line.turns) {
         if line.has_room() {
@@ -111,7 +111,7 @@ fn put_frame<C: Clock, N: Nonces>(
 }
 
 /// Takes the next outcome.
-fn await_outcome<C: Clock>(line: &mut WorkerLane, clock: &mut C) -> Option<Outcome>
+fn await_outcome<C: LoopClock>(line: &mut WorkerLane, clock: &mut C) -> Option<Outcome>
     ensures line { SameWorkerLane line.old line.new }
     ensures put { put_by line.new ≡ put_by line.old }
     ensures taken { MatchOption result (taken_by line.new ≡ taken_by line.old) (λ outcome. taken_by line.new ≡ taken_by line.old ++ outcome ∷ []) }
@@ -128,7 +128,7 @@ fn await_outcome<C: Clock>(line: &mut WorkerLane, clock: &mut C) -> Option<Outco
 }
 
 /// A copy of the octets. Where memory for it is refused it pauses before it tries again.
-fn copy<C: Clock>(line: &mut WorkerLane, clock: &mut C, octets: &[u8]) -> Option<Octets>
+fn copy<C: LoopClock>(line: &mut WorkerLane, clock: &mut C, octets: &[u8]) -> Option<Octets>
     ensures line { SameWorkerLane line.old line.new }
     ensures taken { taken_by line.new ≡ taken_by line.old }
     ensures put { put_by line.new ≡ put_by line.old }
@@ -147,7 +147,7 @@ fn copy<C: Clock>(line: &mut WorkerLane, clock: &mut C, octets: &[u8]) -> Option
 
 /// Puts the frame that came last. Whether the turns sufficed.
 #[tactic(auto, using(crate::proofs::Used::used_rules))]
-fn submit<C: Clock, N: Nonces>(
+fn submit<C: LoopClock, N: Nonces>(
     line: &mut WorkerLane,
     clock: &mut C,
     nonces: &mut N,
@@ -158,7 +158,7 @@ fn submit<C: Clock, N: Nonces>(
     ensures taken { taken_by line.new ≡ taken_by line.old }
     ensures put { IsTrue result → PutOne (framed peer octets.now) (put_by line.old) (put_by line.new) }
     ensures unchanged { IsFalse result → put_by line.new ≡ put_by line.old }
-    ensures stamps { StampsUsed C.Clock N.Nonces (clock.old, nonces.old, put_by line.old) (clock.new, nonces.new, put_by line.new) }
+    ensures stamps { StampsUsed C.LoopClock N.Nonces (clock.old, nonces.old, put_by line.old) (clock.new, nonces.new, put_by line.new) }
 {
     match copy(line, clock, octets) {
         None => false,
@@ -167,7 +167,7 @@ fn submit<C: Clock, N: Nonces>(
 }
 
 /// Puts the datagram that came last where it is a frame, whose peer then waits for a reply after the others. Whether the turns sufficed.
-fn take_in<C: Clock, N: Nonces>(
+fn take_in<C: LoopClock, N: Nonces>(
     line: &mut WorkerLane,
     peers: &mut ArrayVec<u16, UNDER_WAY_MAX>,
     clock: &mut C,
@@ -178,7 +178,7 @@ fn take_in<C: Clock, N: Nonces>(
     requires room { length peers.old.items < UNDER_WAY_MAX }
     ensures line { SameWorkerLane line.old line.new }
     ensures taken { taken_by line.new ≡ taken_by line.old }
-    ensures stamps { StampsUsed C.Clock N.Nonces (clock.old, nonces.old, put_by line.old) (clock.new, nonces.new, put_by line.new) }
+    ensures stamps { StampsUsed C.LoopClock N.Nonces (clock.old, nonces.old, put_by line.old) (clock.new, nonces.new, put_by line.new) }
     ensures took { IsTrue result → (sent : List (ℕ × List ℕ)) (faults : ℕ) → TakesIn (peer, octets.now)
         (correspondence_with sent faults line.old peers.old.items) (correspondence_with sent faults line.new peers.new.items) }
     ensures cut { IsFalse result → (sent : List (ℕ × List ℕ)) (faults : ℕ) → MayTakeIn (peer, octets.now)
@@ -197,7 +197,7 @@ fn take_in<C: Clock, N: Nonces>(
 }
 
 /// Takes the next outcome, and sends its reply to the peer that waits longest. Whether the turns sufficed.
-fn reply_oldest<P: Packets, C: Clock>(
+fn reply_oldest<P: Packets, C: LoopClock>(
     packets: &mut P,
     line: &mut WorkerLane,
     peers: &mut ArrayVec<u16, UNDER_WAY_MAX>,
@@ -224,7 +224,7 @@ fn reply_oldest<P: Packets, C: Clock>(
 }
 
 /// Sends the replies that are owed, each once its outcome is there. Whether the turns sufficed.
-fn reply_all<P: Packets, C: Clock>(
+fn reply_all<P: Packets, C: LoopClock>(
     packets: &mut P,
     line: &mut WorkerLane,
     peers: &mut ArrayVec<u16, UNDER_WAY_MAX>,
@@ -267,7 +267,7 @@ fn receive_next<P: Packets>(
 }
 
 /// For when no datagram came: sends the oldest reply that is owed, or pauses where none is. Whether the turns sufficed.
-fn go_on<P: Packets, C: Clock>(
+fn go_on<P: Packets, C: LoopClock>(
     packets: &mut P,
     line: &mut WorkerLane,
     peers: &mut ArrayVec<u16, UNDER_WAY_MAX>,
@@ -288,7 +288,7 @@ fn go_on<P: Packets, C: Clock>(
 }
 
 /// Puts Open and takes its outcome. Whether the turns sufficed.
-fn begin<C: Clock>(line: &mut WorkerLane, clock: &mut C) -> bool
+fn begin<C: LoopClock>(line: &mut WorkerLane, clock: &mut C) -> bool
     requires empty { (put_by line.old ≡ []) × (taken_by line.old ≡ []) }
     ensures line { SameWorkerLane line.old line.new }
     ensures traded { IsTrue result → (n : ℕ) → Traded [] [] n n (put_by line.new) (taken_by line.new) }
@@ -309,7 +309,7 @@ fn begin<C: Clock>(line: &mut WorkerLane, clock: &mut C) -> bool
 }
 
 /// One datagram after the other, of which some are under way.
-fn serve_packets<P: Packets, C: Clock, N: Nonces>(
+fn serve_packets<P: Packets, C: LoopClock, N: Nonces>(
     packets: &mut P,
     line: &mut WorkerLane,
     clock: &mut C,
@@ -318,7 +318,7 @@ fn serve_packets<P: Packets, C: Clock, N: Nonces>(
     requires empty { (put_by line.old ≡ []) × (taken_by line.old ≡ []) }
     requires first { IsTrue P.is_observed → (P.received packets.old ≡ []) × (P.sent packets.old ≡ []) }
     ensures line { SameWorkerLane line.old line.new }
-    ensures stamps { StampsUsed C.Clock N.Nonces (clock.old, nonces.old, put_by line.old) (clock.new, nonces.new, put_by line.new) }
+    ensures stamps { StampsUsed C.LoopClock N.Nonces (clock.old, nonces.old, put_by line.old) (clock.new, nonces.new, put_by line.new) }
     ensures device { result ≡ Device → (P.fault_count packets.old < P.fault_count packets.new) ⊎ (P.fault_count packets.old ≡ 2 ^ 64 - 1) }
     ensures whole { IsTrue P.is_observed → result ≡ Device → Traded (P.received packets.new) (P.sent packets.new) (P.fault_count packets.old) (P.fault_count packets.new) (put_by line.new) (taken_by line.new) }
     ensures trades { IsTrue P.is_observed → Trades (P.received packets.new) (P.sent packets.new) (P.fault_count packets.old) (P.fault_count packets.new) (put_by line.new) (taken_by line.new) }
@@ -358,7 +358,7 @@ fn serve_packets<P: Packets, C: Clock, N: Nonces>(
 /// Each outcome's octets are sent as their pieces to its event's peer, in the same order. As many frames as the door says are under way at most, so that others
 /// are received, without waiting for them, while a reply is owed; where a send fails the rest of that reply is dropped. A growth that is refused is tried again after a pause, as a turn. Full rings, moments and nonces are as with [`stream_worker`](crate::stream_worker).
 #[tactic(auto, using(crate::proofs::Used::ended_rules))]
-pub fn packet_worker<P: Packets, C: Clock, N: Nonces>(
+pub fn packet_worker<P: Packets, C: LoopClock, N: Nonces>(
     alloc: Global,
     packets: &mut P,
     clock: &mut C,

@@ -12,7 +12,7 @@ ghost use Rattle.hdl_workers.specs.Relaying.{Relays};
 
 use crate::worker::{Stop, spend};
 use crate::worker_lane::WorkerLane;
-use crate::{Clock, Door};
+use crate::{Door, LoopClock};
 use arrayvec::ArrayVec;
 use hdl_events::Outcome;
 
@@ -83,7 +83,7 @@ fn join_ready(line: &mut WorkerLane, joined: &mut ArrayVec<u8, JOINED>) -> Optio
 }
 
 /// As `join_ready`. Where outcomes are still owed then, it pauses once, and takes those that came meanwhile too.
-fn join<C: Clock>(
+fn join<C: LoopClock>(
     line: &mut WorkerLane,
     clock: &mut C,
     joined: &mut ArrayVec<u8, JOINED>,
@@ -105,7 +105,7 @@ fn join<C: Clock>(
 }
 
 /// Writes an outcome that was taken, and in the same write those that come soon and find room in it.
-fn write_joined<D: Door, C: Clock>(
+fn write_joined<D: Door, C: LoopClock>(
     door: &mut D,
     line: &mut WorkerLane,
     clock: &mut C,
@@ -133,7 +133,7 @@ fn write_joined<D: Door, C: Clock>(
 }
 
 /// One try to take an outcome, which is then written, and with it those that are there.
-pub(crate) fn relay<D: Door, C: Clock>(
+pub(crate) fn relay<D: Door, C: LoopClock>(
     door: &mut D,
     line: &mut WorkerLane,
     clock: &mut C,
@@ -161,7 +161,7 @@ pub(crate) fn relay<D: Door, C: Clock>(
 }
 
 /// Waits until each event put has its outcome, and that was written.
-pub(crate) fn await_outcomes<D: Door, C: Clock>(
+pub(crate) fn await_outcomes<D: Door, C: LoopClock>(
     door: &mut D,
     line: &mut WorkerLane,
     clock: &mut C,
@@ -178,7 +178,7 @@ pub(crate) fn await_outcomes<D: Door, C: Clock>(
 }
 
 /// Waits until the ring has room. Meanwhile outcomes are taken and written.
-pub(crate) fn await_room<D: Door, C: Clock>(
+pub(crate) fn await_room<D: Door, C: LoopClock>(
     door: &mut D,
     line: &mut WorkerLane,
     clock: &mut C,

@@ -2,7 +2,7 @@
 
 ghost use Rattle.std.specs.Prelude.{true};
 
-use crate::{Clock, Nonces};
+use crate::{LoopClock, Nonces};
 use std::collections::VecDeque;
 use std::time::Duration;
 
@@ -12,7 +12,7 @@ pub struct MemoryClock {
     pub coming: VecDeque<u64>,
 }
 
-impl Clock for MemoryClock {
+impl LoopClock for MemoryClock {
     ghost is_observed = { true };
 
     ghost answers = { λ c. c.coming.items };

@@ -23,7 +23,7 @@ use crate::intake::Intake;
 use crate::relay::{await_outcomes, await_room};
 use crate::worker::{EndReason, Stop, WorkerEnd, finish, open, spend};
 use crate::worker_lane::WorkerLane;
-use crate::{Clock, Door, Nonces, WorkerSide};
+use crate::{Door, LoopClock, Nonces, WorkerSide};
 use hdl_events::What;
 use hdl_frame::{Cutter, FrameFault};
 use hdl_limits::Octets;
@@ -54,7 +54,7 @@ fn numbers(fault: FrameFault) -> Found
 }
 
 /// Takes what stands next.
-fn find<D: Door, C: Clock>(
+fn find<D: Door, C: LoopClock>(
     door: &mut D,
     line: &mut WorkerLane,
     clock: &mut C,
@@ -75,7 +75,7 @@ fn find<D: Door, C: Clock>(
 
 /// Puts a frame, with the next moment and nonce.
 #[tactic(auto, using(crate::proofs::Used::used_rules))]
-fn submit_frame<D: Door, C: Clock, N: Nonces>(
+fn submit_frame<D: Door, C: LoopClock, N: Nonces>(
     door: &mut D,
     line: &mut WorkerLane,
     clock: &mut C,
@@ -86,7 +86,7 @@ fn submit_frame<D: Door, C: Clock, N: Nonces>(
     ensures relays { Relays D.Door door.old line.old result door.new line.new }
     ensures put { OnOk result (PutOne (framed 0 bytes) (put_by line.old) (put_by line.new)) }
     ensures unchanged { OnErr result (put_by line.new ≡ put_by line.old) }
-    ensures stamps { StampsUsed C.Clock N.Nonces (clock.old, nonces.old, put_by line.old) (clock.new, nonces.new, put_by line.new) }
+    ensures stamps { StampsUsed C.LoopClock N.Nonces (clock.old, nonces.old, put_by line.old) (clock.new, nonces.new, put_by line.new) }
 {
     await_room(door, line, clock)?;
     let moment = clock.now();
@@ -101,7 +101,7 @@ fn submit_frame<D: Door, C: Clock, N: Nonces>(
 }
 
 /// Puts the fault that stands next.
-fn submit_fault<D: Door, C: Clock>(
+fn submit_fault<D: Door, C: LoopClock>(
     door: &mut D,
     line: &mut WorkerLane,
     clock: &mut C,
@@ -121,7 +121,7 @@ fn submit_fault<D: Door, C: Clock>(
 
 /// Puts every frame that is there, and the fault after them. Whether there was a fault.
 #[tactic(auto, using(crate::proofs::Used::used_rules))]
-fn submit_frames<D: Door, C: Clock, N: Nonces>(
+fn submit_frames<D: Door, C: LoopClock, N: Nonces>(
     door: &mut D,
     line: &mut WorkerLane,
     clock: &mut C,
@@ -132,7 +132,7 @@ fn submit_frames<D: Door, C: Clock, N: Nonces>(
     requires talk { IsTrue D.is_observed → Underway (FramesSoFar cutter.old.rest) (D.ended door.old) (D.current door.old) (put_by line.old) (taken_by line.old) }
     ensures goes_on { GoesOn D.Door door.old line.old door.new line.new }
     ensures sound { IfOk result (λ faulty. IsFalse faulty → cutter.new.fault ≡ None) }
-    ensures stamps { StampsUsed C.Clock N.Nonces (clock.old, nonces.old, put_by line.old) (clock.new, nonces.new, put_by line.new) }
+    ensures stamps { StampsUsed C.LoopClock N.Nonces (clock.old, nonces.old, put_by line.old) (clock.new, nonces.new, put_by line.new) }
     ensures waits { IsTrue D.is_observed → IfOk result (λ faulty. IsFalse faulty → Underway (Waiting cutter.new.rest) (D.ended door.new) (D.current door.new) (put_by line.new) (taken_by line.new)) }
     ensures stops { IsTrue D.is_observed → IfOk result (λ faulty. IsTrue faulty → Underway AllFrames (D.ended door.new) (D.current door.new) (put_by line.new) (taken_by line.new)) }
     ensures cut { IsTrue D.is_observed → CutOff SomeFrames (D.ended door.new) (D.current door.new) (put_by line.new) (taken_by line.new) }
@@ -153,7 +153,7 @@ fn submit_frames<D: Door, C: Clock, N: Nonces>(
 
 /// Serves the open connection until its peer closes it, a frame is faulty or a call of the door fails.
 #[tactic(auto, using(crate::proofs::Used::used_rules))]
-fn converse<D: Door, C: Clock, N: Nonces>(
+fn converse<D: Door, C: LoopClock, N: Nonces>(
     door: &mut D,
     line: &mut WorkerLane,
     clock: &mut C,
@@ -161,7 +161,7 @@ fn converse<D: Door, C: Clock, N: Nonces>(
 ) -> Result<(), Stop>
     requires talk { IsTrue D.is_observed → Underway (Waiting []) (D.ended door.old) (D.current door.old) (put_by line.old) (taken_by line.old) }
     ensures goes_on { GoesOn D.Door door.old line.old door.new line.new }
-    ensures stamps { StampsUsed C.Clock N.Nonces (clock.old, nonces.old, put_by line.old) (clock.new, nonces.new, put_by line.new) }
+    ensures stamps { StampsUsed C.LoopClock N.Nonces (clock.old, nonces.old, put_by line.old) (clock.new, nonces.new, put_by line.new) }
     ensures settled { OnOk result (length (taken_by line.new) ≡ length (put_by line.new)) }
     ensures whole { IsTrue D.is_observed → OnOk result (Underway AllFrames (D.ended door.new) (D.current door.new) (put_by line.new) (taken_by line.new)) }
     ensures cut { IsTrue D.is_observed → CutOff SomeFrames (D.ended door.new) (D.current door.new) (put_by line.new) (taken_by line.new) }
@@ -182,7 +182,7 @@ fn converse<D: Door, C: Clock, N: Nonces>(
 
 /// As `converse`. Whether nothing more is owed to the peer, and not merely the turns were spent.
 #[tactic(auto, using(crate::proofs::Used::used_rules))]
-fn converse_to_end<D: Door, C: Clock, N: Nonces>(
+fn converse_to_end<D: Door, C: LoopClock, N: Nonces>(
     door: &mut D,
     line: &mut WorkerLane,
     clock: &mut C,
@@ -190,7 +190,7 @@ fn converse_to_end<D: Door, C: Clock, N: Nonces>(
 ) -> bool
     requires talk { IsTrue D.is_observed → Underway (Waiting []) (D.ended door.old) (D.current door.old) (put_by line.old) (taken_by line.old) }
     ensures goes_on { GoesOn D.Door door.old line.old door.new line.new }
-    ensures stamps { StampsUsed C.Clock N.Nonces (clock.old, nonces.old, put_by line.old) (clock.new, nonces.new, put_by line.new) }
+    ensures stamps { StampsUsed C.LoopClock N.Nonces (clock.old, nonces.old, put_by line.old) (clock.new, nonces.new, put_by line.new) }
     ensures can_close { IsTrue D.is_observed → IsTrue result → CanClose (D.ended door.new) (D.current door.new) (put_by line.new) (taken_by line.new) }
     ensures cut { IsTrue D.is_observed → CutOff SomeFrames (D.ended door.new) (D.current door.new) (put_by line.new) (taken_by line.new) }
 {
@@ -202,7 +202,7 @@ fn converse_to_end<D: Door, C: Clock, N: Nonces>(
 }
 
 /// Puts Close. Outcomes that are taken meanwhile go nowhere.
-fn put_close<C: Clock>(line: &mut WorkerLane, clock: &mut C) -> bool
+fn put_close<C: LoopClock>(line: &mut WorkerLane, clock: &mut C) -> bool
     ensures line { SameWorkerLane line.old line.new }
     ensures taken { (more : List Outcome) × (taken_by line.new ≡ taken_by line.old ++ more) }
     ensures put { IsTrue result → put_by line.new ≡ put_by line.old ++ Event Close ∷ [] }
@@ -224,7 +224,7 @@ fn put_close<C: Clock>(line: &mut WorkerLane, clock: &mut C) -> bool
 }
 
 /// Takes the outcomes that are left, which go nowhere.
-fn drop_outcomes<C: Clock>(line: &mut WorkerLane, clock: &mut C) -> bool
+fn drop_outcomes<C: LoopClock>(line: &mut WorkerLane, clock: &mut C) -> bool
     ensures line { SameWorkerLane line.old line.new }
     ensures taken { (more : List Outcome) × (taken_by line.new ≡ taken_by line.old ++ more) }
     ensures put { put_by line.new ≡ put_by line.old }
@@ -246,7 +246,7 @@ fn drop_outcomes<C: Clock>(line: &mut WorkerLane, clock: &mut C) -> bool
 
 /// Serves the connection that was accepted, and leaves it. Whether the turns sufficed.
 #[tactic(auto, using(crate::proofs::Used::used_rules))]
-fn serve_connection<D: Door, C: Clock, N: Nonces>(
+fn serve_connection<D: Door, C: LoopClock, N: Nonces>(
     door: &mut D,
     line: &mut WorkerLane,
     clock: &mut C,
@@ -258,7 +258,7 @@ fn serve_connection<D: Door, C: Clock, N: Nonces>(
     requires settled { length (taken_by line.old) ≡ length (put_by line.old) }
     ensures faults { D.fault_count door.old ≤ D.fault_count door.new }
     ensures line { SameWorkerLane line.old line.new }
-    ensures stamps { StampsUsed C.Clock N.Nonces (clock.old, nonces.old, put_by line.old) (clock.new, nonces.new, put_by line.new) }
+    ensures stamps { StampsUsed C.LoopClock N.Nonces (clock.old, nonces.old, put_by line.old) (clock.new, nonces.new, put_by line.new) }
     ensures settled { IsTrue result → length (taken_by line.new) ≡ length (put_by line.new) }
     ensures history { IsTrue D.is_observed → IsTrue result → History (D.ended door.new) (put_by line.new) (taken_by line.new) }
     ensures cut { IsTrue D.is_observed → IsFalse result → CutOff AnyBeginning (D.ended door.new) (D.current door.new) (put_by line.new) (taken_by line.new) }
@@ -284,7 +284,7 @@ fn serve_connection<D: Door, C: Clock, N: Nonces>(
 
 /// One connection after the other.
 #[tactic(auto, using(crate::proofs::Used::used_rules))]
-fn serve_door<D: Door, C: Clock, N: Nonces>(
+fn serve_door<D: Door, C: LoopClock, N: Nonces>(
     door: &mut D,
     line: &mut WorkerLane,
     clock: &mut C,
@@ -293,7 +293,7 @@ fn serve_door<D: Door, C: Clock, N: Nonces>(
     requires history { IsTrue D.is_observed → History (D.ended door.old) (put_by line.old) (taken_by line.old) }
     requires settled { length (taken_by line.old) ≡ length (put_by line.old) }
     ensures line { SameWorkerLane line.old line.new }
-    ensures stamps { StampsUsed C.Clock N.Nonces (clock.old, nonces.old, put_by line.old) (clock.new, nonces.new, put_by line.new) }
+    ensures stamps { StampsUsed C.LoopClock N.Nonces (clock.old, nonces.old, put_by line.old) (clock.new, nonces.new, put_by line.new) }
     ensures device { result ≡ Device → (D.fault_count door.old < D.fault_count door.new) ⊎ (D.fault_count door.old ≡ 2 ^ 64 - 1) }
     ensures whole { IsTrue D.is_observed → result ≡ Device → History (D.ended door.new) (put_by line.new) (taken_by line.new) }
     ensures serves { IsTrue D.is_observed → Serves (D.ended door.new) (D.current door.new) (put_by line.new) (taken_by line.new) }
@@ -319,7 +319,7 @@ fn serve_door<D: Door, C: Clock, N: Nonces>(
 /// octets of the outcomes, in order. Where a read or a write fails it puts Close and goes on with the next connection; octets of
 /// an unfinished frame are dropped. A growth that is refused is tried again after a pause, as a turn, once what is owed was written; after a second of that the
 /// connection is given up, as where a write fails. Where the ring is full it takes outcomes and puts again. Each frame has the next moment of the clock and the next nonce of the source, and none of these is left out.
-pub fn stream_worker<D: Door, C: Clock, N: Nonces>(
+pub fn stream_worker<D: Door, C: LoopClock, N: Nonces>(
     alloc: Global,
     door: &mut D,
     clock: &mut C,

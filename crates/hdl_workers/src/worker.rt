@@ -9,7 +9,7 @@ ghost use Rattle.hdl_workers.specs.Sign.{WithEnd};
 ghost use Rattle.hdl_workers.specs.WorkerLane.{put_by, taken_by, SameWorkerLane};
 
 use crate::worker_lane::WorkerLane;
-use crate::{Clock, Item};
+use crate::{Item, LoopClock};
 use hdl_events::{Outcome, What};
 use hdl_lanes::{Ended, Inlet, Outlet};
 
@@ -49,7 +49,7 @@ pub(crate) fn spend(turns: &mut u64) -> bool
 }
 
 /// Puts Open, when no outcome is waited for.
-pub(crate) fn open<C: Clock>(line: &mut WorkerLane, clock: &mut C) -> bool
+pub(crate) fn open<C: LoopClock>(line: &mut WorkerLane, clock: &mut C) -> bool
     ensures line { SameWorkerLane line.old line.new }
     ensures taken { taken_by line.new ≡ taken_by line.old }
     ensures put { IsTrue result → put_by line.new ≡ put_by line.old ++ Event Open ∷ [] }
@@ -68,7 +68,7 @@ pub(crate) fn open<C: Clock>(line: &mut WorkerLane, clock: &mut C) -> bool
 }
 
 /// Tries to put End until it is put or the turns are spent.
-pub(crate) fn put_end<C: Clock>(inlet: &mut Inlet<Item>, clock: &mut C, turns: &mut u64)
+pub(crate) fn put_end<C: LoopClock>(inlet: &mut Inlet<Item>, clock: &mut C, turns: &mut u64)
     ensures inlet { SameInlet inlet.old inlet.new }
     ensures put { WithEnd (put_into inlet.old) (put_into inlet.new) }
     ensures answers { IsTrue C.is_observed → C.answers clock.new ≡ C.answers clock.old }
@@ -82,7 +82,7 @@ pub(crate) fn put_end<C: Clock>(inlet: &mut Inlet<Item>, clock: &mut C, turns: &
 }
 
 /// Puts End where the device ended the worker, and gives the ends of its lane.
-pub(crate) fn finish<C: Clock>(line: WorkerLane, clock: &mut C, why: EndReason) -> WorkerEnd
+pub(crate) fn finish<C: LoopClock>(line: WorkerLane, clock: &mut C, why: EndReason) -> WorkerEnd
     ensures why { result.why ≡ why }
     ensures inlet { EndsLane line.inlet result.ended }
     ensures outlet { result.outlet ≡ line.outcomes }

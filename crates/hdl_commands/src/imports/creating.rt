@@ -10,8 +10,8 @@ use crate::imports::counts::{Counts, print_code, print_line};
 use crate::imports::reading::question;
 use crate::imports::rows::Faults;
 use hdl_client::{Batch, ClientFault, Outcomes, Session, Task, Transport};
-use hdl_lines::{printed_octets, shown_line};
 use hdl_msg::{Body, ContentView, OpCode, ReplyView, ResponseCode, Values, read_request};
+use hdl_value_lines::{printed_octets, shown_line};
 use std::alloc::{AllocError, Global};
 use std::mem;
 

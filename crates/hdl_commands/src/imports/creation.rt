@@ -10,10 +10,10 @@ use crate::fault::ArgumentFault;
 use crate::imports::row::{DAY_SECONDS, PUBLIC_READ_PERMISSIONS};
 use hdl_client::{RequestMessage, Task};
 use hdl_limits::{Items, NAME_MAX, Octets, WRITTEN_MAX};
-use hdl_lines::printed_octets;
 use hdl_msg::RequestBody;
 use hdl_name::Name;
 use hdl_value::{HS_ADMIN, RawRef, RawRefs, Value, Wire, put_string, put_u16, put_u32};
+use hdl_value_lines::printed_octets;
 use std::alloc::Global;
 
 /// All that an administrator may do.

@@ -2,14 +2,14 @@
 
 ghost use Rattle.std.specs.Prelude.{◌≡◌, IfOk, IfErr, option_and_then};
 ghost use Rattle.csv.specs.Records.{field_at, fields_of};
-ghost use Rattle.hdl_lines.specs.Fields as line;
-ghost use Rattle.hdl_lines.specs.Lines.{IsFaultIn};
+ghost use Rattle.hdl_value_lines.specs.Fields as line;
+ghost use Rattle.hdl_value_lines.specs.Lines.{IsFaultIn};
 ghost use Rattle.hdl_commands.specs.Rows as rows;
 
 use crate::imports::columns::Columns;
 use csv::ByteRecord;
-use hdl_lines::{LineFault, number_in, permissions_in, value_by_type};
 use hdl_value::Value;
+use hdl_value_lines::{LineFault, number_in, permissions_in, value_by_type};
 use std::alloc::Global;
 
 /// The permissions 1110: administrators read and write, everyone reads.

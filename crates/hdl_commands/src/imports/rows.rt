@@ -11,8 +11,8 @@ use crate::imports::creation::creation_task;
 use crate::imports::row::value_in_row;
 use csv::ByteRecord;
 use hdl_client::Task;
-use hdl_lines::{LineFault, cut_at};
 use hdl_value::{RawRef, Value, Wire};
+use hdl_value_lines::{LineFault, cut_at};
 use std::alloc::{AllocError, Global};
 use std::mem;
 

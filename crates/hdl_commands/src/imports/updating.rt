@@ -11,9 +11,9 @@ use crate::imports::update::{KeptFields, Steps, meant_values, steps_to, value_at
 use crate::words::line_of;
 use hdl_client::{Batch, ClientFault, Key, Session, Task, Transport};
 use hdl_limits::{Items, Octets};
-use hdl_lines::printed_octets;
 use hdl_msg::{RequestBody, ResponseCode};
 use hdl_value::Value;
+use hdl_value_lines::printed_octets;
 use std::alloc::{AllocError, Global};
 
 /// How handles that are there are updated.

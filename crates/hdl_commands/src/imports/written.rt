@@ -8,8 +8,8 @@ use crate::imports::row::value_in_row;
 use crate::imports::update::is_same;
 use crate::words::line_of;
 use csv::ByteRecord;
-use hdl_lines::{LineFault, cut_at};
 use hdl_value::{HS_ADMIN, HS_VLIST, Value};
+use hdl_value_lines::{LineFault, cut_at};
 use std::alloc::{AllocError, Global};
 
 /// The first line of a file of such rows.

@@ -3,10 +3,10 @@
 ghost use Rattle.std.specs.Prelude.{◌≡◌, ◌<◌, ◌^◌, length, IsTrue, IfOk, IfSome};
 ghost use Rattle.std.specs.List.{AllByRecursion};
 ghost use Rattle.hdl_value.specs.Spelling.{CanBeSpelt};
-ghost use Rattle.hdl_lines.specs.Lines.{line_of};
+ghost use Rattle.hdl_value_lines.specs.Lines.{line_of};
 
-use hdl_lines::value_line;
 use hdl_value::{RawRef, Value};
+use hdl_value_lines::value_line;
 use std::alloc::{AllocError, Global};
 
 /// The most octets and items that a field counts.
@@ -32,7 +32,7 @@ fn can_be_spelt(value: &Value) -> bool
         && references_fit(references)
 }
 
-/// The line of a value as `hdl_lines` writes it; None where a length doesn't fit its field, as that of no value that was read.
+/// The line of a value as `hdl_value_lines` writes it; None where a length doesn't fit its field, as that of no value that was read.
 pub(crate) fn line_of(alloc: Global, value: &Value) -> Result<Option<Vec<u8>>, AllocError>
     ensures { IfOk result (λ found. IfSome found (λ line. line.items ≡ line_of value.now)) }
 {

@@ -3,7 +3,7 @@
 ghost use Rattle.std.specs.Prelude.{◌≡◌, [], OnOk};
 ghost use Rattle.hdl_commands.specs.Printout.{with_line};
 
-use hdl_lines::printed_octets;
+use hdl_value_lines::printed_octets;
 use std::alloc::{AllocError, Global};
 use std::marker::Model;
 
@@ -43,7 +43,7 @@ impl Printout {
         &self.text
     }
 
-    /// Adds a line as `hdl_lines` prints it: without a control character.
+    /// Adds a line as `hdl_value_lines` prints it: without a control character.
     pub fn push(&mut self, line: &str) -> Result<(), AllocError>
         ensures { OnOk result (self.new ≡ with_line self.old line.now) }
     {

@@ -4,8 +4,8 @@ use crate::words::naming::{code_name, operation_name};
 use crate::words::printout::Printout;
 use crate::words::value::{push_data, push_value};
 use hdl_frame::Envelope;
-use hdl_lines::printed_octets;
 use hdl_msg::{ContentView, Digest, OpCode, ReplyView, Strings, Values};
+use hdl_value_lines::printed_octets;
 use std::alloc::AllocError;
 
 fn push_values(

@@ -4,8 +4,8 @@ use crate::words::naming::operation_name;
 use crate::words::printout::Printout;
 use crate::words::value::push_value;
 use hdl_frame::Envelope;
-use hdl_lines::printed_octets;
 use hdl_msg::{Body, Numbers, OpFlag, Request, Strings, Values};
+use hdl_value_lines::printed_octets;
 use std::alloc::AllocError;
 
 /// Adds a line of a word and a handle.

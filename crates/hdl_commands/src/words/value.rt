@@ -1,12 +1,12 @@
 //! A value as a line.
 
 ghost use Rattle.std.specs.Prelude.{◌≡◌, true, false, OnOk};
-ghost use Rattle.hdl_lines.specs.Hiding.{is_hidden, hidden_text, hidden_data, hidden_count, whole_line, whole_data};
+ghost use Rattle.hdl_value_lines.specs.Hiding.{is_hidden, hidden_text, hidden_data, hidden_count, whole_line, whole_data};
 ghost use Rattle.hdl_commands.specs.Printout.{with_line};
 
 use crate::words::printout::Printout;
-use hdl_lines::{is_hidden, shown_data, shown_line};
 use hdl_value::{CutValue, Value};
+use hdl_value_lines::{is_hidden, shown_data, shown_line};
 use jiff::Timestamp;
 use std::alloc::AllocError;
 

@@ -9,7 +9,7 @@ use crate::lanes::pair::LanePair;
 use crate::lanes::server::Serving;
 use hdl_events::Outcome;
 use hdl_serve::{
-    Clock, EndReason, Item, LaneEnds, MemoryDoor, MemoryNonces, MemoryPackets, WorkerEnd,
+    EndReason, Item, LaneEnds, LoopClock, MemoryDoor, MemoryNonces, MemoryPackets, WorkerEnd,
     packet_worker, stream_worker,
 };
 use std::alloc::{AllocError, Global};
@@ -79,7 +79,7 @@ impl<L: Made, S: Serving> Beside<L, S> {
     }
 }
 
-impl<L: Made, S: Serving> Clock for Beside<L, S> {
+impl<L: Made, S: Serving> LoopClock for Beside<L, S> {
     ghost use Rattle.std.specs.Prelude.{false, []};
 
     ghost is_observed = { false };

@@ -3,7 +3,7 @@
 use crate::lanes::later::LaterFile;
 use crate::opening::Opening;
 use hdl_core::{OpenFault, Service, Tenants};
-use hdl_lastingrows::{Alarm, LastingRows, file_over};
+use hdl_durablerows::{DurableRows, ShutObserver, rows_from_file};
 use hdl_rows::PlainRows;
 use hdl_sqlrows::load::Progress;
 use sqlite::{Alter, Connection, MemStore};
@@ -18,10 +18,10 @@ pub struct Rings {
     pub count: u64,
 }
 
-impl Alarm for Rings {
-    ghost rings = { λ s. s.count };
+impl ShutObserver for Rings {
+    ghost shut_notices = { λ s. s.count };
 
-    fn ring(&mut self) {
+    fn note_shut(&mut self) {
         self.count = self.count.saturating_add(1);
     }
 }
@@ -32,7 +32,7 @@ impl Progress for Rings {
     fn values(&mut self, _count: u64) {}
 }
 
-type FiledRows<S> = LastingRows<PlainRows, LaterFile<S>, Rings>;
+type FiledRows<S> = DurableRows<PlainRows, LaterFile<S>, Rings>;
 
 /// Opens services over such a table, and says whether the write that was begun may be made.
 #[derive(Drop)]
@@ -52,7 +52,7 @@ impl Filed {
 }
 
 /// The table of these tenants, over a database that has none.
-fn table_over<S: Alter + Drop>(
+fn table_with_file<S: Alter + Drop>(
     alloc: Global,
     conn: Connection<S>,
     tenants: &Tenants,
@@ -64,11 +64,12 @@ fn table_over<S: Alter + Drop>(
     let mut rings = Rings { count: 0 };
     let rows = PlainRows::new(alloc);
     let spare = PlainRows::new(alloc);
-    let Ok((rows, file)) = file_over(alloc, conn, rows, spare, tenants.opening(), &mut rings) else {
+    let Ok((rows, file)) = rows_from_file(alloc, conn, rows, spare, tenants.opening(), &mut rings)
+    else {
         return Err(OpenFault::Store);
     };
     let file = LaterFile::over(file, may_be_made);
-    Ok(LastingRows::over(alloc, rows, file, rings))
+    Ok(DurableRows::over(alloc, rows, file, rings))
 }
 
 /// The service over that table.
@@ -78,7 +79,7 @@ fn service_over<S: Alter + Drop>(
     tenants: Tenants,
     may_be_made: Arc<AtomicBool>,
 ) -> Result<Service<FiledRows<S>>, OpenFault> {
-    let rows = table_over(alloc, conn, &tenants, may_be_made)?;
+    let rows = table_with_file(alloc, conn, &tenants, may_be_made)?;
     Service::resume(alloc, tenants, rows)
 }
 

@@ -3,10 +3,10 @@
 ghost use Rattle.std.specs.Prelude.{true, false};
 ghost use Rattle.sqlite.specs.Held.{state};
 ghost use Rattle.hdl_rows.specs.Table.{Table};
-ghost use Rattle.hdl_lastingrows.specs.Lasting.{Keeps, StandsIn};
+ghost use Rattle.hdl_durablerows.specs.Durable.{Keeps, StandsIn};
 ghost use Rattle.hdl_scripts.specs.Later.{StandsLater};
 
-use hdl_lastingrows::{FileRows, Filing, Write, WriteState};
+use hdl_durablerows::{DurableFile, FileRows, Write, WriteState};
 use sqlite::Alter;
 use std::sync::Arc;
 use std::sync::atomic::AtomicBool;
@@ -34,10 +34,10 @@ impl<S: Alter + Drop> LaterFile<S> {
     }
 }
 
-impl<S: Alter + Drop> Filing for LaterFile<S> {
+impl<S: Alter + Drop> DurableFile for LaterFile<S> {
     ghost stands = { λ s k. StandsLater s.is_tried (state S.Store s.file) k };
 
-    ghost is_beside = { λ _. true };
+    ghost is_threaded = { λ _. true };
 
     fn begin(&mut self, _write: &Write<'_>) -> WriteState {
         self.may_be_made.store(false, SeqCst);

@@ -8,7 +8,7 @@ use crate::lanes::words::{tell_item, word_of};
 use hdl_events::Outcome;
 use hdl_limits::Octets;
 use hdl_serve::{
-    Clock, Door, DoorFault, EndReason, LaneEnds, MemoryDoor, MemoryNonces, stream_worker,
+    Door, DoorFault, EndReason, LaneEnds, LoopClock, MemoryDoor, MemoryNonces, stream_worker,
 };
 use std::alloc::Global;
 use std::collections::VecDeque;
@@ -50,7 +50,7 @@ impl Recorder {
     }
 }
 
-impl Clock for Recorder {
+impl LoopClock for Recorder {
     ghost use Rattle.std.specs.Prelude.{false, []};
 
     ghost is_observed = { false };

@@ -8,7 +8,7 @@ ghost use Rattle.hdl_scripts.specs.Same.{IsEach};
 use crate::lanes::words::bad;
 use crate::opening::Opening;
 use hdl_core::Tenants;
-use hdl_serve::{Clock, LaneEnds, Owing, Served, Service, WriteQueue, serve};
+use hdl_serve::{LaneEnds, LoopClock, Owing, Served, Service, WriteQueue, serve};
 use std::alloc::Global;
 use std::time::Duration;
 use std::{io, mem};
@@ -34,7 +34,7 @@ pub struct Pauses {
     pub count: u64,
 }
 
-impl Clock for Pauses {
+impl LoopClock for Pauses {
     ghost use Rattle.std.specs.Prelude.{false, []};
 
     ghost is_observed = { false };

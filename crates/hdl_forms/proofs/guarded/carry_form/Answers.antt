@@ -1,7 +1,7 @@
 use Rattle.std.proofs.Common.{◌≡◌, inl, true, false, Ok, Some, rules}
 use Rattle.std.specs.declared.alloc.AllocError.{AllocError}
-use Rattle.hdl_writes.specs.Sending.{says_done}
-use Rattle.hdl_writes.proofs.Sendings.{asked_so, asked_then}
+use Rattle.hdl_rest.specs.Sending.{says_done}
+use Rattle.hdl_rest.proofs.Sendings.{asked_so, asked_then}
 use Rattle.hdl_forms.specs.Guarded.{is_of_shown}
 use Rattle.hdl_forms.proofs.Unchanged.{refused, stopped, went_on}
 use Rattle.hdl_forms.proofs.guarded.carry_form.Goals as goal

@@ -1,4 +1,4 @@
-use Rattle.hdl_writes.proofs.Sendings.{asked_so}
+use Rattle.hdl_rest.proofs.Sendings.{asked_so}
 use Rattle.hdl_forms.proofs.Unchanged.{paged}
 use Rattle.hdl_forms.proofs.guarded.carry_on.Goals as goal
 

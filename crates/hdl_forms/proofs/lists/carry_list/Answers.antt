@@ -2,7 +2,7 @@ use Rattle.std.proofs.Common.{true, false}
 use Rattle.std.proofs.lemmas.Result.{IfOk-weaker}
 use Rattle.std.specs.declared.alloc.AllocError.{AllocError}
 use Rattle.hdl_proxy.specs.declared.answer.Status.TheVariants.{Success}
-use Rattle.hdl_writes.proofs.Sendings.{asked_so}
+use Rattle.hdl_rest.proofs.Sendings.{asked_so}
 use Rattle.hdl_forms.specs.Taken.{page_status}
 use Rattle.hdl_forms.proofs.Leaves.{given, refused}
 use Rattle.hdl_forms.proofs.lists.carry_list.Goals as goal

@@ -1,7 +1,7 @@
 use Rattle.std.proofs.Common.{ℕ, List, sym, subst}
 use Rattle.std.specs.Prelude.{IfOk}
 use Rattle.hdl_proxy.specs.Answer.{IsPage, IsJson, IsPretty, ShowsValues}
-use Rattle.hdl_proxy.specs.Keeping.{IsKeepingOf}
+use Rattle.hdl_proxy.specs.CacheControl.{IsCacheControlOf}
 use Rattle.hdl_proxy.specs.declared.note.Note.TheVariants.{Nothing}
 use Rattle.hdl_proxy.proofs.Made.{made_of, made_so}
 use Rattle.hdl_proxy.proofs.proxy.answer_values.Goals as goal
@@ -20,7 +20,7 @@ returns-in-Json c =
     let values = c.args.values.now in
     let said = c.values_answer.ensures in
     let json : IfOk c.values_answer.result (IsJson c.sent.result.now values) =
-    made_of c.values_answer.result _ _ _ _ (λ a told kept body. record { told = told; kept = subst (IsKeepingOf values) (sym kept) c.keeping_of.ensures; body = body }) said.told said.kept said.body in
+    made_of c.values_answer.result _ _ _ _ (λ a told kept body. record { told = told; kept = subst (IsCacheControlOf values) (sym kept) c.cache_control_of.ensures; body = body }) said.told said.kept said.body in
     let named = subst (λ (h : List ℕ). IfOk c.values_answer.result (IsJson h values)) c.sent.ensures.octets json in
     subst (λ form. IfOk c.values_answer.result (ShowsValues form handle c.args.wish.now.append.now c.args.wish.now.locatt.now values)) (sym c.in-Json.is) named
 
@@ -30,6 +30,6 @@ returns-in-Pretty c =
     let values = c.args.values.now in
     let said = c.pretty_answer.ensures in
     let pretty : IfOk c.pretty_answer.result (IsPretty c.sent-in-Pretty.result.now values) =
-    made_of c.pretty_answer.result _ _ _ _ (λ a told kept body. record { told = told; kept = subst (IsKeepingOf values) (sym kept) c.keeping_of-in-Pretty.ensures; body = body }) said.told said.kept said.body in
+    made_of c.pretty_answer.result _ _ _ _ (λ a told kept body. record { told = told; kept = subst (IsCacheControlOf values) (sym kept) c.cache_control_of-in-Pretty.ensures; body = body }) said.told said.kept said.body in
     let named = subst (λ (h : List ℕ). IfOk c.pretty_answer.result (IsPretty h values)) c.sent-in-Pretty.ensures.octets pretty in
     subst (λ form. IfOk c.pretty_answer.result (ShowsValues form handle c.args.wish.now.append.now c.args.wish.now.locatt.now values)) (sym c.in-Pretty.is) named

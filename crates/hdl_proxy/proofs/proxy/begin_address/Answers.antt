@@ -4,7 +4,7 @@ use Rattle.hdl_proxy.specs.Begin.{AsksAddress, AsksFor, IsExact, IsMeant, json_f
 use Rattle.hdl_proxy.specs.Pasted.{IsWritten, between_spaces}
 use Rattle.hdl_proxy.specs.Query.{pairs_of, texts_of}
 use Rattle.hdl_proxy.specs.declared.proxy.Next.{Next}
-use Rattle.hdl_proxy.specs.declared.question.Form.{Form}
+use Rattle.hdl_proxy.specs.declared.question.AnswerFormat.{AnswerFormat}
 use Rattle.hdl_proxy.proofs.Paths.{behind_front, no_handle}
 use Rattle.hdl_proxy.proofs.proxy.begin_address.Goals as goal
 
@@ -15,7 +15,7 @@ pub returns-in-Some-clause-asks : goal.returns-in-Some-clause-asks
 returns-in-Some-clause-asks c = λ of_handle.
     let path = c.args.path.now in
     let pairs : List (List ℕ × List ℕ) = pairs_of c.args.query.now in
-    let form : Form = c.json_form.result in
+    let form : AnswerFormat = c.json_form.result in
     let text : List ℕ = c.in-Some.text.now in
     let name : List ℕ = c.deref.result.now in
     let first : texts_of c.deref-in-Some.result.now ≡ pairs = ap texts_of c.deref-in-Some.ensures.value ∙ c.in_ok-pairs.ensures in
@@ -33,7 +33,7 @@ pub returns-clause-asks : goal.returns-clause-asks
 returns-clause-asks c = λ of_handle.
     let path = c.args.path.now in
     let pairs : List (List ℕ × List ℕ) = pairs_of c.args.query.now in
-    let form : Form = c.page_form.result in
+    let form : AnswerFormat = c.page_form.result in
     let text : List ℕ = c.name_within.result.now in
     let name : List ℕ = c.between_spaces-name.result.now in
     let first : texts_of c.deref-3.result.now ≡ pairs = ap texts_of c.deref-3.ensures.value ∙ c.in_ok-pairs.ensures in

@@ -1,7 +1,7 @@
 use Rattle.std.proofs.Common.{ℕ, List, sym, subst}
 use Rattle.std.specs.Prelude.{IfOk}
 use Rattle.hdl_proxy.specs.Answer.{Goes, IsPage, LeadsBy}
-use Rattle.hdl_proxy.specs.Keeping.{IsKeepingOf}
+use Rattle.hdl_proxy.specs.CacheControl.{IsCacheControlOf}
 use Rattle.hdl_proxy.proofs.Made.{made, made_so}
 use Rattle.hdl_proxy.proofs.proxy.go.Goals as goal
 
@@ -11,7 +11,7 @@ returns-in-Some c =
     let values = c.args.values.now in
     let to = c.in-Some.link in
     let leads : IfOk c.redirect.result (LeadsBy c.sent.result.now values to) =
-    made c.redirect.result _ _ _ (λ a leads kept. record { leads = leads; kept = subst (IsKeepingOf values) (sym kept) c.keeping_of.ensures }) c.redirect.ensures.leads c.redirect.ensures.kept in
+    made c.redirect.result _ _ _ (λ a leads kept. record { leads = leads; kept = subst (IsCacheControlOf values) (sym kept) c.cache_control_of.ensures }) c.redirect.ensures.leads c.redirect.ensures.kept in
     let named = subst (λ (h : List ℕ). IfOk c.redirect.result (LeadsBy h values to)) c.sent.ensures.octets leads in
     subst (λ way. IfOk c.redirect.result (Goes handle values way c.args.way.wrong)) (sym c.in-Some.is) named
 

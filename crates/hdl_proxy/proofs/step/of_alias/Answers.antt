@@ -13,7 +13,7 @@ returns c =
     c.in_ok-extend_from_slice.ensures.items ∙ ap (λ (x : List ℕ). x ++ codes ", an alias: ") (c.in_ok-title.ensures.items ∙ c.sent.ensures.octets) in
     let above = c.in_ok-put_alias.ensures ∙ ap (λ (x : List ℕ). x ++ alias_part asked) c.empty-page.ensures in
     record {
-      keeping = refl;
+      cache_control = refl;
       status = refl;
       location = refl;
       media = refl;

@@ -2,7 +2,7 @@ use Rattle.std.proofs.Common.{◌∷◌, [], ◌∙◌, ap, sym, length-append, 
 use Rattle.std.specs.Ordering.{nat_cmp}
 use Rattle.std.specs.FinMap.{put, is_sorted}
 use Rattle.hdl_value.specs.declared.value.Value.{Value}
-use Rattle.hdl_rows.specs.Shelf.{by_index}
+use Rattle.hdl_rows.specs.RowStore.{by_index}
 use Rattle.hdl_rows.proofs.RowLemmas.{put_all-push}
 use Rattle.hdl_rows.proofs.ShelfLemmas.{values_put}
 use Rattle.hdl_rows.proofs.row.put_copies.Goals as goal

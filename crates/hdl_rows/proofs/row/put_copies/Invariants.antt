@@ -1,5 +1,5 @@
 use Rattle.std.proofs.Common.{◌≡◌, ◌≤◌, ◌+◌, length, vec_len, vec_capacity}
-use Rattle.hdl_rows.specs.Shelf.{by_index, put_all}
+use Rattle.hdl_rows.specs.RowStore.{by_index, put_all}
 use Rattle.hdl_rows.proofs.row.put_copies.Given as goal
 
 abbrev pub invariant-loop-value : goal.invariant-loop-value

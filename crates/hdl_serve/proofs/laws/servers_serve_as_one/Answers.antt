@@ -1,7 +1,7 @@
 use Rattle.std.proofs.Common.{ℕ, ◌<◌, sym, subst}
 use Rattle.std.specs.List.{AllZip}
 use Rattle.hdl_laws.specs.Runs.{events, outcomes}
-use Rattle.hdl_together.specs.Shared.{AreParts, FollowsList}
+use Rattle.hdl_cluster_laws.specs.Shared.{AreParts, FollowsList}
 use Rattle.hdl_serve.specs.Served.{LaneServed}
 use Rattle.hdl_serve.proofs.Followed.{follow}
 use Rattle.hdl_serve.proofs.Behind.{behind_are, behind_takes, behind_turns}

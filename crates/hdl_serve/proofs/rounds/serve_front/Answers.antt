@@ -1,6 +1,6 @@
 use Rattle.std.proofs.Common.{◌≡◌, ◌⊎◌, [], true, false, refl, sym, subst}
 use Rattle.std.specs.Prelude.{IsFalse}
-use Rattle.hdl_queue.specs.Waiting.{is_turn}
+use Rattle.hdl_write_queue.specs.Waiting.{is_turn}
 use Rattle.hdl_workers.specs.declared.ends.LaneEnds.{LaneEnds}
 use Rattle.hdl_serve.specs.Rounds.{Passes}
 use Rattle.hdl_serve.proofs.Steps.{passes_first, passes_nothing, serves_going, serves_none, took_last, puts_nothing, puts_none, puts_later}

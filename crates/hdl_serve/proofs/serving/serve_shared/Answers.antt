@@ -22,9 +22,9 @@ loop-turns-preserved g c =
     let world = c.args.served.service.world in
     let before = c.args.served.lanes.items in
     let is = c.loop-turns.invariant in
-    let more = c.let_in_news.ensures.beside in
-    let beside = serving_beside world c.loop-turns.machine.world c.let_in_news.new.machine.world before c.loop-turns.lanes.items is.0 more.0 c.loop-turns.ended.items is.2 more.2 in
-    let lent = subst (λ lanes. IsServing world before (is.0 ++ more.0) c.let_in_news.new.machine.world lanes c.loop-turns.ended.items) (sym c.as_mut_slice.ensures.value) beside in
+    let more = c.apply_remote_changes.ensures.beside in
+    let beside = serving_beside world c.loop-turns.machine.world c.apply_remote_changes.new.machine.world before c.loop-turns.lanes.items is.0 more.0 c.loop-turns.ended.items is.2 more.2 in
+    let lent = subst (λ lanes. IsServing world before (is.0 ++ more.0) c.apply_remote_changes.new.machine.world lanes c.loop-turns.ended.items) (sym c.as_mut_slice.ensures.value) beside in
     let back = written_back c.loop-turns.lanes.items c.round-served.new.lanes c.loop-turns.lanes.len c.loop-turns.lanes.ok.0 (c.round-served.auto.lanes ∙ ap length c.as_mut_slice.ensures.value) in (
       is.0 ++ more.0,
       more.1 ∙ ap (λ changes. changes ++ more.0) is.1 ∙ append_assoc _ is.0 more.0,
@@ -35,14 +35,14 @@ pub returns-in_default-clause-shared : goal.returns-in_default-clause-shared
 returns-in_default-clause-shared g c =
     let world = c.args.served.service.world in
     let before = c.args.served.lanes.items in
-    let known = g.N.News.taken c.args.news.now in
-    let later = g.N.News.taken c.let_in_news.new.news in
+    let known = g.N.RemoteChanges.taken c.args.news.now in
+    let later = g.N.RemoteChanges.taken c.apply_remote_changes.new.news in
     let is = c.loop-turns.invariant in
-    let more = c.let_in_news.ensures.beside in
-    let beside = serving_beside world c.loop-turns.machine.world c.let_in_news.new.machine.world before c.loop-turns.lanes.items is.0 more.0 c.loop-turns.ended.items is.2 more.2 in
+    let more = c.apply_remote_changes.ensures.beside in
+    let beside = serving_beside world c.loop-turns.machine.world c.apply_remote_changes.new.machine.world before c.loop-turns.lanes.items is.0 more.0 c.loop-turns.ended.items is.2 more.2 in
     subst (λ w. IsShared world before known w c.end_with.result.served.lanes.items later) (sym c.end_with.ensures.world)
-    (subst (λ lanes. IsShared world before known c.let_in_news.new.machine.world lanes later) (sym c.end_with.ensures.lanes)
-    (shared world c.let_in_news.new.machine.world before c.loop-turns.lanes.items (is.0 ++ more.0) known later c.loop-turns.ended.items (more.1 ∙ ap (λ changes. changes ++ more.0) is.1 ∙ append_assoc _ is.0 more.0) beside))
+    (subst (λ lanes. IsShared world before known c.apply_remote_changes.new.machine.world lanes later) (sym c.end_with.ensures.lanes)
+    (shared world c.apply_remote_changes.new.machine.world before c.loop-turns.lanes.items (is.0 ++ more.0) known later c.loop-turns.ended.items (more.1 ∙ ap (λ changes. changes ++ more.0) is.1 ∙ append_assoc _ is.0 more.0) beside))
 
 pub returns-in_default-clause-distinct : goal.returns-in_default-clause-distinct
 returns-in_default-clause-distinct g c = subst AreDistinct (sym c.end_with.ensures.lanes) (still_distinct _ _ _ _ _ _ c.loop-turns.invariant.2)
@@ -51,8 +51,8 @@ pub returns-clause-shared : goal.returns-clause-shared
 returns-clause-shared g c =
     let world = c.args.served.service.world in
     let before = c.args.served.lanes.items in
-    let known = g.N.News.taken c.args.news.now in
-    let later = g.N.News.taken c.loop-turns.news in
+    let known = g.N.RemoteChanges.taken c.args.news.now in
+    let later = g.N.RemoteChanges.taken c.loop-turns.news in
     let is = c.loop-turns.invariant in
     subst (λ w. IsShared world before known w c.end_with-2.result.served.lanes.items later) (sym c.end_with-2.ensures.world)
     (subst (λ lanes. IsShared world before known c.loop-turns.machine.world lanes later) (sym c.end_with-2.ensures.lanes)

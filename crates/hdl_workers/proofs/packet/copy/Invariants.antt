@@ -7,7 +7,7 @@ invariant-loop-line g l = record {
   line : SameWorkerLane l.initial.line l.line;
   taken : taken_by l.line ≡ taken_by l.initial.line;
   put : put_by l.line ≡ put_by l.initial.line;
-  answers : IsTrue g.C.Clock.is_observed → g.C.Clock.answers l.clock ≡ g.C.Clock.answers l.initial.clock;
+  answers : IsTrue g.C.LoopClock.is_observed → g.C.LoopClock.answers l.clock ≡ g.C.LoopClock.answers l.initial.clock;
 }
 
 abbrev pub decreases-loop-line : goal.decreases-loop-line

@@ -8,7 +8,7 @@ abbrev pub invariant-loop-buffer : goal.invariant-loop-buffer
 invariant-loop-buffer g l = record {
   faults : g.P.Packets.fault_count l.fn.packets ≤ g.P.Packets.fault_count l.packets;
   line : SameWorkerLane l.fn.line l.line;
-  stamps : StampsUsed g.C.Clock g.N.Nonces (l.fn.clock, l.fn.nonces, put_by l.fn.line) (l.clock, l.nonces, put_by l.line);
+  stamps : StampsUsed g.C.LoopClock g.N.Nonces (l.fn.clock, l.fn.nonces, put_by l.fn.line) (l.clock, l.nonces, put_by l.line);
   trading : IsTrue g.P.Packets.is_observed → Trading (g.P.Packets.received l.packets) (g.P.Packets.fault_count l.fn.packets) (correspondence_at g.P.Packets l.packets l.line l.peers.items);
 }
 

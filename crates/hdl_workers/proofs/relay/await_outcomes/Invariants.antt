@@ -7,7 +7,7 @@ abbrev pub invariant-loop-line : goal.invariant-loop-line
 invariant-loop-line g l = record {
   goes_on : GoesOn g.D.Door l.initial.door l.initial.line l.door l.line;
   put : put_by l.line ≡ put_by l.initial.line;
-  answers : IsTrue g.C.Clock.is_observed → g.C.Clock.answers l.clock ≡ g.C.Clock.answers l.initial.clock;
+  answers : IsTrue g.C.LoopClock.is_observed → g.C.LoopClock.answers l.clock ≡ g.C.LoopClock.answers l.initial.clock;
   whole : IsTrue g.D.Door.is_observed → Relayed (taken_by l.initial.line) (g.D.Door.current l.initial.door) (taken_by l.line) (g.D.Door.current l.door);
 }
 

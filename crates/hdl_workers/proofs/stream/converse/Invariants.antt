@@ -9,7 +9,7 @@ abbrev pub invariant-loop-intake : goal.invariant-loop-intake
 invariant-loop-intake g l = record {
   goes_on : GoesOn g.D.Door l.fn.door l.fn.line l.door l.line;
   sound : l.intake.cutter.fault ≡ None;
-  stamps : StampsUsed g.C.Clock g.N.Nonces (l.fn.clock, l.fn.nonces, put_by l.fn.line) (l.clock, l.nonces, put_by l.line);
+  stamps : StampsUsed g.C.LoopClock g.N.Nonces (l.fn.clock, l.fn.nonces, put_by l.fn.line) (l.clock, l.nonces, put_by l.line);
   settled : length (taken_by l.line) ≡ length (put_by l.line);
   talk : IsTrue g.D.Door.is_observed → Underway (Waiting l.intake.cutter.rest) (g.D.Door.ended l.door) (g.D.Door.current l.door) (put_by l.line) (taken_by l.line);
 }

@@ -8,7 +8,7 @@ abbrev pub invariant-loop-door : goal.invariant-loop-door
 invariant-loop-door g l = record {
   faults : g.D.Door.fault_count l.fn.door ≤ g.D.Door.fault_count l.door;
   line : SameWorkerLane l.fn.line l.line;
-  stamps : StampsUsed g.C.Clock g.N.Nonces (l.fn.clock, l.fn.nonces, put_by l.fn.line) (l.clock, l.nonces, put_by l.line);
+  stamps : StampsUsed g.C.LoopClock g.N.Nonces (l.fn.clock, l.fn.nonces, put_by l.fn.line) (l.clock, l.nonces, put_by l.line);
   settled : length (taken_by l.line) ≡ length (put_by l.line);
   history : IsTrue g.D.Door.is_observed → History (g.D.Door.ended l.door) (put_by l.line) (taken_by l.line);
 }

@@ -9,7 +9,7 @@ abbrev pub invariant-loop-line : goal.invariant-loop-line
 invariant-loop-line g l = record {
   goes_on : GoesOn g.D.Door l.initial.door l.initial.line l.door l.line;
   sound : l.cutter.fault ≡ None;
-  stamps : StampsUsed g.C.Clock g.N.Nonces (l.initial.clock, l.initial.nonces, put_by l.initial.line) (l.clock, l.nonces, put_by l.line);
+  stamps : StampsUsed g.C.LoopClock g.N.Nonces (l.initial.clock, l.initial.nonces, put_by l.initial.line) (l.clock, l.nonces, put_by l.line);
   talk : IsTrue g.D.Door.is_observed → Underway (FramesSoFar l.cutter.rest) (g.D.Door.ended l.door) (g.D.Door.current l.door) (put_by l.line) (taken_by l.line);
 }
 

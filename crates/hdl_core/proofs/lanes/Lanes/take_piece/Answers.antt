@@ -1,7 +1,7 @@
 use Rattle.std.proofs.Common.{ap, ◌∙◌}
 use Rattle.hdl_pool.specs.Partial.{piece_of}
 use Rattle.hdl_pool.specs.Taking.{take_piece}
-use Rattle.hdl_core.proofs.Heard.{on_ok}
+use Rattle.hdl_core.proofs.Answered.{on_ok}
 use Rattle.hdl_core.proofs.HeldLanes.{within, partials_are, repooled}
 use Rattle.hdl_core.proofs.Opened as opened
 use Rattle.hdl_core.proofs.lanes.Lanes.take_piece.Goals as goal

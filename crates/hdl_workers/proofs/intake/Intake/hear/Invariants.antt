@@ -6,7 +6,7 @@ invariant-loop-turns g l = record {
   turns : l.turns ≤ l.initial.turns;
   intake : l.self ≡ l.initial.self;
   door : l.door ≡ l.initial.door;
-  answers : IsTrue g.C.Clock.is_observed → g.C.Clock.answers l.clock ≡ g.C.Clock.answers l.initial.clock;
+  answers : IsTrue g.C.LoopClock.is_observed → g.C.LoopClock.answers l.clock ≡ g.C.LoopClock.answers l.initial.clock;
 }
 
 abbrev pub decreases-loop-turns : goal.decreases-loop-turns

@@ -1,0 +1,88 @@
+//! A stream to a member.
+
+use std::io;
+use std::io::{Read, Write};
+use std::net::{Net, TcpStream, ToSocketAddrs};
+use std::os::unix::net::UnixStream;
+use std::time::Duration;
+
+/// How many seconds a member has to take a connection, a request, and to send more of its answer.
+const TIMEOUT_SECONDS: u64 = 1;
+
+/// What the path of a Unix socket stands behind.
+const UNIX: &str = "unix:";
+
+/// A stream to a member: by TCP, or by a Unix socket.
+#[derive(Drop)]
+pub(crate) enum MemberStream {
+    Tcp(TcpStream),
+    Unix(UnixStream),
+}
+
+fn connect_unix<R: Net>(rt: &R, path: &str) -> io::Result<UnixStream> {
+    let patience = Duration::from_secs(TIMEOUT_SECONDS);
+    let stream = UnixStream::connect(rt, path)?;
+    stream.set_read_timeout(Some(patience))?;
+    stream.set_write_timeout(Some(patience))?;
+    Ok(stream)
+}
+
+/// A stream to the first address that takes a connection.
+fn connect_tcp<R: Net<Stream = TcpStream>>(rt: &R, address: &str) -> io::Result<TcpStream> {
+    let patience = Duration::from_secs(TIMEOUT_SECONDS);
+    for address in address.to_socket_addrs(rt)? {
+        if let Ok(stream) = TcpStream::connect_timeout(rt, &address, patience) {
+            stream.set_nodelay(true)?;
+            stream.set_read_timeout(Some(patience))?;
+            stream.set_write_timeout(Some(patience))?;
+            return Ok(stream);
+        }
+    }
+    Err(io::Error::from(io::ErrorKind::ConnectionRefused))
+}
+
+impl MemberStream {
+    /// A stream to the member at `HOST:PORT`, or at `unix:PATH`.
+    pub(crate) fn connect<R: Net<Stream = TcpStream>>(
+        rt: &R,
+        address: &str,
+    ) -> io::Result<MemberStream> {
+        match address.strip_prefix(UNIX) {
+            Some(path) => Ok(MemberStream::Unix(connect_unix(rt, path)?)),
+            None => Ok(MemberStream::Tcp(connect_tcp(rt, address)?)),
+        }
+    }
+
+    /// From now on a call that would wait fails with `WouldBlock`.
+    pub(crate) fn set_nonblocking(&self) -> io::Result<()> {
+        match self {
+            MemberStream::Tcp(stream) => stream.set_nonblocking(true),
+            MemberStream::Unix(stream) => stream.set_nonblocking(true),
+        }
+    }
+}
+
+impl Read for MemberStream {
+    fn read(&mut self, buf: &mut [u8]) -> io::Result<usize> {
+        match self {
+            MemberStream::Tcp(stream) => stream.read(buf),
+            MemberStream::Unix(stream) => stream.read(buf),
+        }
+    }
+}
+
+impl Write for MemberStream {
+    fn write(&mut self, buf: &[u8]) -> io::Result<usize> {
+        match self {
+            MemberStream::Tcp(stream) => stream.write(buf),
+            MemberStream::Unix(stream) => stream.write(buf),
+        }
+    }
+
+    fn flush(&mut self) -> io::Result<()> {
+        match self {
+            MemberStream::Tcp(stream) => stream.flush(),
+            MemberStream::Unix(stream) => stream.flush(),
+        }
+    }
+}

@@ -1,6 +1,0 @@
-use Rattle.std.proofs.Common.{◌≡◌, drop}
-use Rattle.hdl_copied.specs.Handles.{listed_in}
-use Rattle.hdl_copied.proofs.handles.CopiedHandles.listed.Given as goal
-
-abbrev pub invariant-loop-one : goal.invariant-loop-one
-invariant-loop-one l = listed_in l.prefix (drop l.one-index l.one-items) ≡ listed_in l.prefix l.self.prefixes.items

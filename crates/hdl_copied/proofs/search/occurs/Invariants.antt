@@ -1,6 +1,0 @@
-use Rattle.std.proofs.Common.{◌≡◌, drop}
-use Rattle.hdl_copied.specs.Search.{occurs}
-use Rattle.hdl_copied.proofs.search.occurs.Given as goal
-
-abbrev pub invariant-loop-index : goal.invariant-loop-index
-invariant-loop-index l = occurs l.word (drop l.index l.text) ≡ occurs l.word l.text

@@ -1,5 +1,0 @@
-use Rattle.hdl_crowd.proofs.RunLemmas.{has_its_own_lem}
-use Rattle.hdl_crowd.proofs.laws.each_has_its_own.Goals as goal
-
-pub returns : goal.returns
-returns c = has_its_own_lem

@@ -1,6 +1,0 @@
-use Rattle.hdl_entries.specs.Entries.{dated_at}
-use Rattle.hdl_entries.proofs.Loops.{SoFar}
-use Rattle.hdl_entries.proofs.reading.messages_in.Given as goal
-
-abbrev pub invariant-loop : goal.invariant-loop
-invariant-loop l = SoFar dated_at l.count l.counter l.octets l.rest l.messages.items

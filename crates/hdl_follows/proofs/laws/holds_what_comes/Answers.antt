@@ -1,5 +1,0 @@
-use Rattle.hdl_follows.proofs.Coming.{holds_what_comes}
-use Rattle.hdl_follows.proofs.laws.holds_what_comes.Goals as goal
-
-pub returns : goal.returns
-returns c = holds_what_comes

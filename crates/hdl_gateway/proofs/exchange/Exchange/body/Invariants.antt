@@ -1,6 +1,0 @@
-use Rattle.std.proofs.Common.{◌≤◌, length}
-use Rattle.hdl_gateway.specs.declared.exchange.TheConstants.{ANSWER_MAX}
-use Rattle.hdl_gateway.proofs.exchange.Exchange.body.Given as goal
-
-abbrev pub invariant-loop : goal.invariant-loop
-invariant-loop g l = length l.body.items ≤ ANSWER_MAX

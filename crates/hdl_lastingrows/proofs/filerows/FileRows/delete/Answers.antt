@@ -1,8 +1,0 @@
-use Rattle.std.proofs.Common.{subst, OnErr}
-use Rattle.sqlite.specs.Held.{state}
-use Rattle.hdl_sqlrows.specs.Filed.{WhereOpen, CrashLeaves, filed_table}
-use Rattle.hdl_lastingrows.proofs.filerows.FileRows.delete.Goals as goal
-
-pub returns-clause-restored : goal.returns-clause-restored
-returns-clause-restored g c =
-    subst (λ h. OnErr c.delete.result (WhereOpen (state g.S.Store c.delete.new.conn) (CrashLeaves (state g.S.Store c.delete.new.conn) (filed_table (state g.S.Store h))))) c.self.view_is c.delete.ensures.restored

@@ -1,5 +1,0 @@
-use Rattle.hdl_lines.proofs.PrintedLines.{hidden_is_refused_lem}
-use Rattle.hdl_lines.proofs.laws.hidden_is_refused.Goals as goal
-
-pub returns : goal.returns
-returns c = hidden_is_refused_lem

@@ -1,5 +1,0 @@
-use Rattle.hdl_lines.proofs.PlainText.{printed_line}
-use Rattle.hdl_lines.proofs.laws.printed_is_line.Goals as goal
-
-pub returns : goal.returns
-returns c = printed_line

@@ -1,5 +1,0 @@
-use Rattle.std.proofs.Common.{◌≡◌, IsTrue}
-use Rattle.hdl_members.proofs.list.SharedList.is_due.Given as goal
-
-abbrev pub invariant-loop : goal.invariant-loop
-invariant-loop g l = (IsTrue l.initial.self.is_due → IsTrue l.self.is_due) × ((l.self.chain ≡ l.initial.self.chain) × (l.self.name ≡ l.initial.self.name))

@@ -1,7 +1,0 @@
-use Rattle.std.proofs.Common.{take}
-use Rattle.std.specs.List.{AllZip}
-use Rattle.hdl_members.specs.Sequence.{Makes}
-use Rattle.hdl_members.proofs.list.operations_of.Given as goal
-
-abbrev pub invariant-loop-write : goal.invariant-loop-write
-invariant-loop-write l = AllZip Makes (take l.write-index l.writes) l.operations.items

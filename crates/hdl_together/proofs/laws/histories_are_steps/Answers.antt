@@ -1,5 +1,0 @@
-use Rattle.hdl_together.proofs.Histories.{histories_are_steps}
-use Rattle.hdl_together.proofs.laws.histories_are_steps.Goals as goal
-
-pub returns : goal.returns
-returns c = histories_are_steps

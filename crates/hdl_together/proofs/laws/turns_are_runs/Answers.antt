@@ -1,5 +1,0 @@
-use Rattle.hdl_together.proofs.Merging.{turns_are_runs}
-use Rattle.hdl_together.proofs.laws.turns_are_runs.Goals as goal
-
-pub returns : goal.returns
-returns c = turns_are_runs

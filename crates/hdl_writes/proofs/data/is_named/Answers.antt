@@ -1,6 +1,0 @@
-use Rattle.std.proofs.Common.{rules}
-use Rattle.hdl_name.proofs.Equal.{handle_decides}
-use Rattle.hdl_writes.proofs.data.is_named.Goals as goal
-
-pub returns : goal.returns
-returns c = search (rules, handle_decides)

@@ -1,5 +1,0 @@
-use Rattle.hdl_writes.proofs.Losses.{nothing_is_lost_lem}
-use Rattle.hdl_writes.proofs.laws.nothing_is_lost.Goals as goal
-
-pub returns : goal.returns
-returns c = nothing_is_lost_lem

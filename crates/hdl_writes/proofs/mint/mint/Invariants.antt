@@ -1,6 +1,0 @@
-use Rattle.hdl_writes.specs.Orders.{AllExist}
-use Rattle.hdl_writes.specs.Since.{AskedSince}
-use Rattle.hdl_writes.proofs.mint.mint.Given as goal
-
-abbrev pub invariant-loop : goal.invariant-loop
-invariant-loop g l = AskedSince g.S.ChangeServer l.initial.service l.service (AllExist l.order.key l.order.name l.values)

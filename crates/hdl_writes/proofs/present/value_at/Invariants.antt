@@ -1,7 +1,0 @@
-use Rattle.std.proofs.Common.{◌≡◌}
-use Rattle.hdl_msg.specs.Views.{values_of}
-use Rattle.hdl_writes.specs.Present.{value_at}
-use Rattle.hdl_writes.proofs.present.value_at.Given as goal
-
-abbrev pub invariant-loop-cut : goal.invariant-loop-cut
-invariant-loop-cut l = value_at l.fn.index (values_of l.values) ≡ value_at l.fn.index (values_of l.fn.values)

@@ -1,5 +1,0 @@
-use Rattle.std.proofs.Common.{length}
-use Rattle.hdl_writes.proofs.record.+twice_from.Given as goal
-
-abbrev pub decreases-twice_from : goal.decreases-twice_from
-decreases-twice_from l = length l.values.now

@@ -1,7 +1,0 @@
-use Rattle.std.proofs.Common.{◌≡◌, drop, map}
-use Rattle.serde_json.specs.View.{view}
-use Rattle.hdl_writes.specs.Shapes.{all_fit}
-use Rattle.hdl_writes.proofs.shapes.all_fit.Given as goal
-
-abbrev pub invariant-loop-json : goal.invariant-loop-json
-invariant-loop-json l = all_fit (map view (drop l.json-index l.list)) ≡ all_fit (map view l.list)

@@ -1,7 +1,0 @@
-use Rattle.std.proofs.Common.{◌≡◌, drop}
-use Rattle.hdl_proxy.specs.Query.{texts_of}
-use Rattle.hdl_writes.specs.Words.{are_known}
-use Rattle.hdl_writes.proofs.words.are_known.Given as goal
-
-abbrev pub invariant-loop-pair : goal.invariant-loop-pair
-invariant-loop-pair l = are_known l.method (texts_of (drop l.pair-index l.pairs)) ≡ are_known l.method (texts_of l.pairs)
