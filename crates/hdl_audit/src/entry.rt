@@ -31,12 +31,8 @@ pub struct Entry {
 /// The word of an operation that changes a handle.
 fn word_of(operation: u32) -> &'static str {
     match OpCode::of(operation) {
-        Some(OpCode::CreateHandle) => "create",
-        Some(OpCode::DeleteHandle) => "delete",
-        Some(OpCode::AddValue) => "add",
-        Some(OpCode::RemoveValue) => "remove",
-        Some(OpCode::ModifyValue) => "modify",
-        _ => "other",
+        Some(OpCode::ChallengeResponse) | None => "other",
+        Some(operation) => operation.name(),
     }
 }
 

@@ -7,18 +7,12 @@ ghost use Rattle.hdl_forms.specs.Draft.{IsDraftFault, IsUsable, are_printed, dra
 
 use hdl_limits::{DATA_MAX, Octets, TYPE_MAX};
 use hdl_proxy::{Pair, is_followed};
+use hdl_value::{HS_ALIAS, HS_GONE, URL};
 use hdl_value_lines::{number_in, permissions_in};
 use std::alloc::{AllocError, Global};
 
-/// The type of a value that says why its handle leads nowhere any more.
-pub(crate) const GONE: &[u8] = b"HS_GONE";
-
 /// How the types begin by whose values the service or the proxy acts.
 const RESERVED: &[u8] = b"HS_";
-
-const ALIAS: &[u8] = b"HS_ALIAS";
-
-pub(crate) const URL: &[u8] = b"URL";
 
 /// What is done with a value, or with a handle that isn't there yet.
 #[derive(Clone, Copy, PartialEq, Eq)]
@@ -116,7 +110,7 @@ fn is_reserved(kind: &[u8]) -> bool
 fn is_own_type(kind: &[u8]) -> bool
     ensures { result ≡ is_own_type kind.now }
 {
-    kind == ALIAS || kind == GONE
+    kind == HS_ALIAS || kind == HS_GONE
 }
 
 /// Whether forms change values of this type.

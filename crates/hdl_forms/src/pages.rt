@@ -3,13 +3,13 @@
 ghost use Rattle.std.specs.Prelude.{◌≡◌, IfOk};
 ghost use Rattle.hdl_forms.specs.Pages.{IsFormPage};
 
-use crate::draft::{Draft, GONE, Task, URL, are_printed, is_type};
+use crate::draft::{Draft, Task, are_printed, is_type};
 use crate::fault::{Fault, Field, NO_FAULT};
 use crate::markup::Template;
 use crate::template::{FormPage, Texts};
 use hdl_limits::Octets;
 use hdl_proxy::{Answer, CacheControl, Media, Status, is_shown, path_of};
-use hdl_value::Value;
+use hdl_value::{HS_GONE, URL, Value};
 use hdl_value_lines::permission_digits;
 use std::alloc::{AllocError, Global};
 
@@ -181,7 +181,7 @@ fn with_additions(
         text: b"",
     };
     let page = with_new_value(alloc, page, token, texts, NO_FAULT)?;
-    if values.iter().any(|value| is_of(GONE, value)) {
+    if values.iter().any(|value| is_of(HS_GONE, value)) {
         return Ok(page);
     }
     let texts = Texts::new(alloc).and(token)?.and(index.as_bytes())?;
@@ -251,7 +251,7 @@ pub(crate) fn create_page(
 fn question(draft: &Draft) -> &'static str {
     match draft.task {
         Task::Change => "Change this value?",
-        Task::Add if draft.kind.as_slice() == GONE => "Say that this handle is gone?",
+        Task::Add if draft.kind.as_slice() == HS_GONE => "Say that this handle is gone?",
         Task::Add => "Add this value?",
         Task::Remove => "Remove this value?",
         Task::Create => "Create this handle?",
@@ -262,7 +262,7 @@ fn question(draft: &Draft) -> &'static str {
 fn done_words(draft: &Draft) -> &'static str {
     match draft.task {
         Task::Change => "The value is changed",
-        Task::Add if draft.kind.as_slice() == GONE => "Readers are told that it is gone",
+        Task::Add if draft.kind.as_slice() == HS_GONE => "Readers are told that it is gone",
         Task::Add => "The value is added",
         Task::Remove => "The value is removed",
         Task::Create => "The handle is created",

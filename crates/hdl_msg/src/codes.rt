@@ -46,6 +46,21 @@ impl OpCode {
             _ => None,
         }
     }
+
+    /// What commands, metrics and the log of changes call it.
+    pub fn name(self) -> &'static str {
+        match self {
+            OpCode::Resolution => "resolve",
+            OpCode::GetSiteInfo => "get-site-info",
+            OpCode::CreateHandle => "create",
+            OpCode::DeleteHandle => "delete",
+            OpCode::AddValue => "add",
+            OpCode::RemoveValue => "remove",
+            OpCode::ModifyValue => "modify",
+            OpCode::ListHandles => "list",
+            OpCode::ChallengeResponse => "respond",
+        }
+    }
 }
 
 /// The bits of OpFlag, under the names of RFC 3652, section 2.2.2.3. Of a request only PublicOnly and ReturnDigest are
@@ -115,6 +130,29 @@ pub enum ResponseCode {
 }
 
 impl ResponseCode {
+    /// All of them, in the order of their numbers.
+    pub const ALL: [ResponseCode; 19] = [
+        ResponseCode::Success,
+        ResponseCode::Error,
+        ResponseCode::ServerBusy,
+        ResponseCode::ProtocolError,
+        ResponseCode::OperationDenied,
+        ResponseCode::HandleNotFound,
+        ResponseCode::HandleAlreadyExists,
+        ResponseCode::InvalidHandle,
+        ResponseCode::ValueNotFound,
+        ResponseCode::ValueAlreadyExists,
+        ResponseCode::ValueInvalid,
+        ResponseCode::ServiceReferral,
+        ResponseCode::NotAuthorized,
+        ResponseCode::AccessDenied,
+        ResponseCode::AuthenticationNeeded,
+        ResponseCode::AuthenticationFailed,
+        ResponseCode::InvalidCredential,
+        ResponseCode::AuthenticationTimeout,
+        ResponseCode::UnableToAuthenticate,
+    ];
+
     /// Its number on the wire.
     pub fn number(self) -> u32
         ensures { result ≡ response_number self }

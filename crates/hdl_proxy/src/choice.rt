@@ -3,19 +3,7 @@
 ghost use Rattle.std.specs.Prelude.{◌≡◌, codes, option_copied};
 ghost use Rattle.hdl_proxy.specs.Choice.{is_shown, is_of, is_url, is_chosen, comes_first, IsFirstOf, IsFirstUrl};
 
-use hdl_value::{Permission, Value};
-
-/// The type of a value that a browser is sent to.
-const URL: &[u8] = b"URL";
-
-/// The type of a value that says several locations.
-const LOCATIONS: &[u8] = b"10320/loc";
-
-/// The type of a value that names another handle, which is asked for in this one's place.
-const ALIAS: &[u8] = b"HS_ALIAS";
-
-/// The type of a value that says why a handle leads nowhere any more.
-const GONE: &[u8] = b"HS_GONE";
+use hdl_value::{HS_ALIAS, HS_GONE, LOCATIONS, Permission, URL, Value};
 
 /// Whether a value is shown: everyone may read it, and it is no key.
 pub fn is_shown(value: &Value) -> bool
@@ -42,7 +30,7 @@ pub(crate) fn is_url(value: &Value) -> bool
 pub(crate) fn is_alias(value: &Value) -> bool
     ensures { result ≡ is_of (codes "HS_ALIAS") value.now }
 {
-    is_of(ALIAS, value)
+    is_of(HS_ALIAS, value)
 }
 
 /// Whether a value comes before the one that was chosen so far, if one was.
@@ -93,12 +81,12 @@ pub(crate) fn first_place(values: &[Value]) -> Option<&Value>
 pub(crate) fn first_alias(values: &[Value]) -> Option<&Value>
     ensures { IsFirstOf (codes "HS_ALIAS") values.now (option_copied result) }
 {
-    first_of(ALIAS, values)
+    first_of(HS_ALIAS, values)
 }
 
 /// The value of the lowest index that says that the handle is gone.
 pub(crate) fn first_gone(values: &[Value]) -> Option<&Value>
     ensures { IsFirstOf (codes "HS_GONE") values.now (option_copied result) }
 {
-    first_of(GONE, values)
+    first_of(HS_GONE, values)
 }

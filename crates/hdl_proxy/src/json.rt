@@ -16,15 +16,11 @@ use crate::words::{
     written_words,
 };
 use base64::engine::general_purpose::STANDARD;
-use hdl_value::{AdminMask, HS_ADMIN, HS_VLIST, Reference, Value, admin_of, vlist_of};
+use hdl_value::{
+    AdminMask, HS_ADMIN, HS_PUBKEY, HS_SITE, HS_VLIST, Reference, Value, admin_of, vlist_of,
+};
 use serde_json::{Map, Value as Json, put};
 use std::alloc::{AllocError, Global};
-
-/// The type of a value that says where a service is.
-const HS_SITE: &[u8] = b"HS_SITE";
-
-/// The type of a public key.
-const HS_PUBKEY: &[u8] = b"HS_PUBKEY";
 
 /// An answer in JSON, without a space, which others may keep so.
 fn kept_answer(

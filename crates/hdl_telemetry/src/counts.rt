@@ -21,46 +21,8 @@ const OPERATIONS: [OpCode; 8] = [
     OpCode::ListHandles,
 ];
 
-/// The codes that are counted by themselves; all others are counted together.
-const CODES: [ResponseCode; 19] = [
-    ResponseCode::Success,
-    ResponseCode::Error,
-    ResponseCode::ServerBusy,
-    ResponseCode::ProtocolError,
-    ResponseCode::OperationDenied,
-    ResponseCode::HandleNotFound,
-    ResponseCode::HandleAlreadyExists,
-    ResponseCode::InvalidHandle,
-    ResponseCode::ValueNotFound,
-    ResponseCode::ValueAlreadyExists,
-    ResponseCode::ValueInvalid,
-    ResponseCode::ServiceReferral,
-    ResponseCode::NotAuthorized,
-    ResponseCode::AccessDenied,
-    ResponseCode::AuthenticationNeeded,
-    ResponseCode::AuthenticationFailed,
-    ResponseCode::InvalidCredential,
-    ResponseCode::AuthenticationTimeout,
-    ResponseCode::UnableToAuthenticate,
-];
-
-/// How many counts an operation has: one for each code, and one for all others.
-const COLUMNS: usize = CODES.len() + 1;
-
-/// The word of an operation: of one that changes a handle, as the audit log has it.
-fn word_of(operation: OpCode) -> &'static str {
-    match operation {
-        OpCode::Resolution => "resolve",
-        OpCode::GetSiteInfo => "get-site-info",
-        OpCode::CreateHandle => "create",
-        OpCode::DeleteHandle => "delete",
-        OpCode::AddValue => "add",
-        OpCode::RemoveValue => "remove",
-        OpCode::ModifyValue => "modify",
-        OpCode::ListHandles => "list",
-        OpCode::ChallengeResponse => "other",
-    }
-}
+/// How many counts an operation has: one for each code, and one for all other codes.
+const COLUMNS: usize = ResponseCode::ALL.len() + 1;
 
 /// What a publisher's lanes answered, counted by all of its workers.
 #[derive(Drop)]
@@ -96,10 +58,10 @@ impl Counts {
         let row = operations
             .position(|one| one.number() == operation)
             .unwrap_or(OPERATIONS.len());
-        let mut codes = CODES.iter();
+        let mut codes = ResponseCode::ALL.iter();
         let column = codes
             .position(|one| one.number() == code)
-            .unwrap_or(CODES.len());
+            .unwrap_or(ResponseCode::ALL.len());
         if let Some(count) = self
             .replies
             .get(row.wrapping_mul(COLUMNS).wrapping_add(column))
@@ -139,7 +101,7 @@ impl Counts {
                 out,
                 "handled_replies_total{{publisher=\"{publisher}\",operation=\"{word}\",code=\""
             )?;
-            match CODES.get(column) {
+            match ResponseCode::ALL.get(column) {
                 Some(code) => write!(out, "{}", code.number())?,
                 None => out.write_str("other")?,
             }
@@ -151,7 +113,7 @@ impl Counts {
     /// Puts a line for each count of replies that isn't 0 (Prometheus' text format).
     pub fn put_replies<W: Write>(&self, out: &mut W) -> fmt::Result {
         for (row, operation) in OPERATIONS.iter().enumerate() {
-            self.put_row(out, row, word_of(*operation))?;
+            self.put_row(out, row, operation.name())?;
         }
         self.put_row(out, OPERATIONS.len(), "other")
     }

@@ -46,7 +46,9 @@ pub use cut::{CutValue, cut_value};
 pub use fault::ValueFault;
 pub use fields::{octet_at, put_string, put_u16, put_u32, string_at, u16_at, u32_at};
 pub use fits::{number_fits, string_fits, value_fits};
-pub use kinds::{HS_ADMIN, HS_SECKEY, HS_VLIST};
+pub use kinds::{
+    HS_ADMIN, HS_ALIAS, HS_GONE, HS_PUBKEY, HS_SECKEY, HS_SITE, HS_VLIST, LOCATIONS, URL,
+};
 pub use laws::{
     grants_are_named, listed_are_named, net_read_as_spelt, none_begins_another, one_administrator,
     one_list, places_are_ordered, read_as_spelt, read_as_spelt_by, read_by_second, refs_are_named,

@@ -8,7 +8,7 @@ use bytes::Bytes;
 use hdl_msg::{ContentView, read_reply};
 use hdl_proxy::{Answer, Status};
 use hdl_routes::ReplyCache;
-use hdl_value::Wire;
+use hdl_value::{LOCATIONS, Wire};
 use http::StatusCode;
 use http::header::{HeaderMap, HeaderValue};
 use http::response::{Parts, Response};
@@ -24,9 +24,6 @@ const REDIRECTS_MOST: usize = 4096;
 
 /// The most octets of the path, the question and the reply of a redirect that is kept, together.
 const REDIRECT_OCTETS_MOST: usize = 4096;
-
-/// The type of a value that says several locations.
-const LOCATIONS: &[u8] = b"10320/loc";
 
 /// A redirect as it was answered, and of which reply to which question it was made.
 #[derive(Drop)]

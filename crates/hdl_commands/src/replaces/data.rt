@@ -4,11 +4,8 @@ ghost use Rattle.std.specs.Prelude.{◌≡◌, option_map, IfOk};
 ghost use Rattle.hdl_commands.specs.Replace as said;
 
 use hdl_limits::Octets;
-use hdl_value::Value;
+use hdl_value::{URL, Value};
 use std::alloc::{AllocError, Global};
-
-/// The type whose values are replaced.
-pub(crate) const URL: &[u8] = b"URL";
 
 /// The data, beginning with the second octets where it begins with the first; None where it doesn't.
 fn replaced_data(

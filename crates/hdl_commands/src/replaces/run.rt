@@ -3,14 +3,14 @@
 use crate::advice::{Asked, KeyWords, advice};
 use crate::imports::{row_of, whole_values};
 use crate::replaces::asking::ReplaceOptions;
-use crate::replaces::data::{URL, all_replaced};
+use crate::replaces::data::all_replaced;
 use crate::replaces::fault::ReplaceFault;
 use crate::words::{code_name, line_of};
 use hdl_client::{ClientFault, Key, Session, Transport};
 use hdl_limits::{Items, Octets};
 use hdl_msg::{ContentView, OpCode, RequestBody, ResponseCode};
 use hdl_name::Name;
-use hdl_value::Value;
+use hdl_value::{URL, Value};
 use hdl_value_lines::printed_octets;
 use std::alloc::{AllocError, Global};
 use std::fs::File;

@@ -4,18 +4,7 @@ use hdl_msg::{OpCode, ResponseCode};
 
 /// What an operation is called. Numbers that no operation has are `unknown`.
 pub fn operation_name(number: u32) -> &'static str {
-    match OpCode::of(number) {
-        Some(OpCode::Resolution) => "resolve",
-        Some(OpCode::GetSiteInfo) => "get-site-info",
-        Some(OpCode::CreateHandle) => "create",
-        Some(OpCode::DeleteHandle) => "delete",
-        Some(OpCode::AddValue) => "add",
-        Some(OpCode::RemoveValue) => "remove",
-        Some(OpCode::ModifyValue) => "modify",
-        Some(OpCode::ListHandles) => "list",
-        Some(OpCode::ChallengeResponse) => "respond",
-        None => "unknown",
-    }
+    OpCode::of(number).map_or("unknown", OpCode::name)
 }
 
 /// The operation that a word names, in capital or small letters. No word names a challenge response.
