@@ -1,7 +1,7 @@
 """bounds.py: tries the bounds of publishers, over the proved program crates/handled/out/handled, in memory and over a file.
 
 Up to its bound a publisher creates, adds and modifies; what would take more is answered Busy (code 3) and changes nothing; what is removed or deleted makes room again; the other publisher is
-served as if nothing were. Standard error says once that the bound is reached. Over a file the count is that of the file after a restart. Words that are no bound, and a text that opens with more,
+served as if nothing were. Standard error says once that the bound is reached. Over a file the count is that of the file after a restart. The status page says what a bounded publisher holds. Words that are no bound, and a text that opens with more,
 are refused. Where the system gives the process no more memory, changes are answered Busy and resolutions go on; this case is left out where UNPROVED is set.
 
 It takes some five seconds. Its last line is 'N passed, M failed', a case counting one."""
@@ -13,6 +13,7 @@ import subprocess
 import sys
 import tempfile
 import time
+import urllib.request
 
 # nothing is left beside the tools
 sys.dont_write_bytecode = True
@@ -160,6 +161,30 @@ def administrative_handles_count():
     return alike(found, [1, BUSY, 1, 1])
 
 
+def counted():
+    """The status page counts what the bounded publisher holds, at the start and after changes, and says what it may hold; nothing of the other one."""
+    (at,) = servers.free_ports(1)
+
+    def gauges():
+        with urllib.request.urlopen("http://127.0.0.1:%d/metrics" % at, timeout=10 * servers.SLOWER) as page:
+            lines = page.read().decode().splitlines()
+        return [line for line in lines if line.startswith(("handled_held_", "handled_bound_"))]
+
+    def wanted(values, count):
+        numbers = (("held_values", values), ("bound_values", 7), ("held_octets", count), ("bound_octets", 1 << 40))
+        return ['handled_%s{publisher="acme"} %d' % number for number in numbers]
+
+    with served([*bound("acme", 7, 1 << 40), "--status", "127.0.0.1:%d" % at]) as ports:
+        acme, bolt = Publisher(ports[0], b"10"), Publisher(ports[1], b"11")
+        found = [gauges()]
+        for write in (lambda: acme.create(b"10/a"), lambda: bolt.create(b"11/a"), lambda: acme.create(b"10/b"), lambda: acme.remove(b"10/b", 1), lambda: acme.delete(b"10/a")):
+            write()
+            found.append(gauges())
+    two = OPENED + 2 * ONE
+    removed = two - ROW - len(b"URL") - len(b"0123456789")
+    return alike(found, [wanted(2, OPENED), wanted(4, OPENED + ONE), wanted(4, OPENED + ONE), wanted(6, two), wanted(5, removed), wanted(3, removed - ONE)])
+
+
 def refused(options):
     done = subprocess.run([servers.HANDLED, "serve", "--turns", "1", *options], input=tenants(*servers.free_ports(2)), stdout=subprocess.PIPE, stderr=subprocess.PIPE, timeout=60 * servers.SLOWER, check=False)
     return done.returncode, done.stdout, done.stderr.decode()
@@ -219,6 +244,7 @@ def main():
             ("octets in a file", lambda: by_octets(file("octets.db"))),
             ("a restart", after_a_restart),
             ("administrative handles", administrative_handles_count),
+            ("counted", counted),
             ("bad words", bad_words),
             ("too much to open", too_much_to_open),
         ]

@@ -38,6 +38,7 @@ ALERTS = (
     ("HandleLogLost", "handled_log_lines_lost_total", "+1", "+0"),
     ("HandleChangesSlow", "handled_commit_seconds_sum", "+20", "+1"),
     ("HandleChangesBusy", 'handled_replies_total{publisher="a",operation="other",code="3"}', "+5", "+1"),
+    ("HandleBoundNear", 'handled_held_values{publisher="a"}', "950", "800"),
     ("HandleKeysWrong", 'handled_replies_total{publisher="a",operation="other",code="403"}', "+9", "+1"),
     ("HandleConnectionsMany", 'handled_connections{publisher="a"}', "950", "800"),
     ("HandleProxyServerFails", 'hdl_proxy_server_failed_total{server="s"}', "+20", "+2"),
@@ -46,7 +47,7 @@ ALERTS = (
     ("HandleProxyLogLost", "hdl_proxy_log_lines_lost_total", "+1", "+0"),
 )
 # What stands beside each of them.
-ALWAYS = (("handled_commit_seconds_count", "+10"), ('hdl_proxy_server_asked_total{server="s"}', "+100"), ('hdl_proxy_answers_total{kind="redirect",code="302"}', "+100"))
+ALWAYS = (("handled_commit_seconds_count", "+10"), ('handled_bound_values{publisher="a"}', "1000"), ('hdl_proxy_server_asked_total{server="s"}', "+100"), ('hdl_proxy_answers_total{kind="redirect",code="302"}', "+100"))
 
 
 def text_of(name):
@@ -118,7 +119,7 @@ def metrics():
             known |= {name + end for end in re.findall(r'\("(\w+)", *"(?:counter|gauge)"|"(\w+)",\s*"(?:counter|gauge)"', text) for end in end if end} if rest else {name}
         # a histogram's lines, and gauges that stand in a list
         known |= {name + end for name in re.findall(r"# TYPE (\w+) histogram", text) for end in ("_bucket", "_sum", "_count")}
-        known |= set(re.findall(r'"((?:handled|process)_\w+_(?:bytes|fds))"', text))
+        known |= set(re.findall(r'"((?:handled|process)_\w+_(?:bytes|fds|values|octets))"', text))
         if "# TYPE " in text or "_total{{" in text or "_bucket{{" in text:
             labels |= set(re.findall(r'[{},](\w+)=\\"', text))
     return known, labels

@@ -4,7 +4,7 @@ use crate::bounds::bounds_of;
 use crate::monitoring::open_log;
 use crate::ports::report_unservable;
 use hdl_core::Tenants;
-use hdl_host::{Health, Limits, Monitoring, ServerConfig, notices_of};
+use hdl_host::{Health, Limits, Monitoring, ServerConfig, statuses_of};
 use hdl_programs::{Fault, tenants_of};
 use hdl_server_options::{BoundOption, LimitOptions, MonitoringOptions};
 use std::net::IpAddr;
@@ -121,8 +121,8 @@ pub fn plan_of(
     }
     match bounds_of(rt.alloc(), words, text, &tenants) {
         Ok(bounds) => {
-            let notices = notices_of(rt.alloc(), bounds.as_slice())?;
-            config.monitoring.bounds = Arc::new(rt.alloc(), notices)?;
+            let statuses = statuses_of(rt.alloc(), bounds.as_slice())?;
+            config.monitoring.bounds = Arc::new(rt.alloc(), statuses)?;
             config.bounds = bounds;
             Ok(PlanResult::Plan(TextPlan { tenants, config }))
         }

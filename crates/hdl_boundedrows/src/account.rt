@@ -136,7 +136,7 @@ impl Amount {
 
 impl Account {
     /// Whether handles of this prefix count.
-    fn counts(&self, prefix: &[u8]) -> bool
+    pub(crate) fn counts(&self, prefix: &[u8]) -> bool
         ensures { result ≡ has_prefix self.now prefix.now }
     {
         self.bound.roots.iter().any(|root| root.prefix() == prefix)
@@ -191,6 +191,13 @@ impl Accounts {
         Accounts {
             all: Vec::new(alloc),
         }
+    }
+
+    /// All of them, in the order of their bounds.
+    pub(crate) fn as_slice(&self) -> &[Account]
+        ensures { result.now ≡ self.now }
+    {
+        self.all.as_slice()
     }
 
     /// One more.

@@ -22,10 +22,13 @@ use hdl_value::{Reference, Value};
 use std::alloc::Global;
 use std::marker::Model;
 
-/// Is informed of each write that a bound refused.
+/// Is informed of each write that a bound refused, and of what publishers with a bound hold.
 pub trait BoundObserver {
     /// The publisher at this place among the bounds would have more than its bound.
     fn note_exceeded(&mut self, place: usize, bound: &Bound);
+
+    /// The publisher at this place holds so much now.
+    fn note_held(&mut self, place: usize, held: Amount);
 }
 
 /// A table with a bound for each of some publishers. Contracts see what the table holds, how many calls were refused by it or by a bound,
@@ -70,6 +73,15 @@ fn permit<A: BoundObserver>(
     }
     *refusals = refusals.saturating_add(1);
     Err(Refused)
+}
+
+/// Tells what each publisher holds for which handles of this prefix count.
+fn note_held<A: BoundObserver>(accounts: &Accounts, observer: &mut A, prefix: &[u8]) {
+    for (place, account) in accounts.as_slice().iter().enumerate() {
+        if account.counts(prefix) {
+            observer.note_held(place, account.held);
+        }
+    }
 }
 
 /// What the administrative handle of a prefix counts.
@@ -136,7 +148,7 @@ impl<R: Owing + Drop, A: BoundObserver + Drop> BoundedRows<R, A> {
         alloc: Global,
         mut rows: R,
         bounds: Vec<Bound>,
-        observer: A,
+        mut observer: A,
     ) -> Result<BoundedRows<R, A>, Refused>
         ensures table { IfOk result (λ bounded. bounded.table ≡ R.content rows) }
         ensures holdings { IfOk result (λ bounded. bounded.holdings ≡ map (holding_at_first (R.content rows)) bounds.items) }
@@ -145,6 +157,9 @@ impl<R: Owing + Drop, A: BoundObserver + Drop> BoundedRows<R, A> {
         for bound in bounds {
             let held = held_by(alloc, &mut rows, &bound.roots)?;
             accounts.push(Account { bound, held })?;
+        }
+        for (place, account) in accounts.as_slice().iter().enumerate() {
+            observer.note_held(place, account.held);
         }
         Ok(BoundedRows {
             rows,
@@ -275,6 +290,7 @@ impl<R: Owing + Drop, A: BoundObserver + Drop> Rows for BoundedRows<R, A> {
         )?;
         self.rows.create(name, values)?;
         self.accounts.count_change(prefix, change);
+        note_held(&self.accounts, &mut self.observer, prefix);
         Ok(())
     }
 
@@ -307,6 +323,7 @@ impl<R: Owing + Drop, A: BoundObserver + Drop> Rows for BoundedRows<R, A> {
         )?;
         self.rows.add(name, values)?;
         self.accounts.count_change(prefix, change);
+        note_held(&self.accounts, &mut self.observer, prefix);
         Ok(())
     }
 
@@ -340,6 +357,7 @@ impl<R: Owing + Drop, A: BoundObserver + Drop> Rows for BoundedRows<R, A> {
         )?;
         self.rows.modify(name, values)?;
         self.accounts.count_change(prefix, change);
+        note_held(&self.accounts, &mut self.observer, prefix);
         Ok(())
     }
 
@@ -365,6 +383,7 @@ impl<R: Owing + Drop, A: BoundObserver + Drop> Rows for BoundedRows<R, A> {
         };
         self.rows.remove(name, indexes)?;
         self.accounts.count_change(prefix, change);
+        note_held(&self.accounts, &mut self.observer, prefix);
         Ok(())
     }
 
@@ -388,6 +407,7 @@ impl<R: Owing + Drop, A: BoundObserver + Drop> Rows for BoundedRows<R, A> {
         };
         self.rows.delete(name)?;
         self.accounts.count_change(prefix, change);
+        note_held(&self.accounts, &mut self.observer, prefix);
         Ok(())
     }
 

@@ -1,19 +1,19 @@
 //! Bounds of publishers, over any table.
 
-use hdl_boundedrows::{Bound, BoundObserver};
-use hdl_telemetry::Notice;
+use hdl_boundedrows::{Amount, Bound, BoundObserver};
+use hdl_telemetry::{BoundStatus, Notice};
 use std::alloc::{AllocError, Global};
 use std::sync::Arc;
 
-/// Raises the notice of the publisher that reached its bound.
+/// Raises the notice of the publisher that reached its bound, and notes what each holds.
 #[derive(Drop)]
 pub struct Notices {
-    all: Arc<Vec<Notice>>,
+    all: Arc<Vec<BoundStatus>>,
 }
 
 impl Notices {
-    /// The notices of bounds, in the bounds' order.
-    pub fn new(all: Arc<Vec<Notice>>) -> Notices {
+    /// Those of these bounds, in the bounds' order.
+    pub fn new(all: Arc<Vec<BoundStatus>>) -> Notices {
         Notices { all }
     }
 }
@@ -28,19 +28,28 @@ fn notice_of(alloc: Global, bound: &Bound) -> Result<Notice, AllocError> {
     Notice::new(alloc, words.as_str())
 }
 
-/// A notice for each of these bounds, in their order.
-pub fn notices_of(alloc: Global, bounds: &[Bound]) -> Result<Vec<Notice>, AllocError> {
+/// The status of each of these bounds, in their order. Nothing is held yet.
+pub fn statuses_of(alloc: Global, bounds: &[Bound]) -> Result<Vec<BoundStatus>, AllocError> {
     let mut all = Vec::with_capacity(alloc, bounds.len())?;
     for bound in bounds {
-        all.push(notice_of(alloc, bound)?)?;
+        let Amount { values, octets } = bound.most;
+        let notice = notice_of(alloc, bound)?;
+        let publisher = bound.publisher.as_str();
+        all.push(BoundStatus::new(alloc, publisher, values, octets, notice)?)?;
     }
     Ok(all)
 }
 
 impl BoundObserver for Notices {
     fn note_exceeded(&mut self, place: usize, _bound: &Bound) {
-        if let Some(notice) = self.all.get(place) {
-            notice.raise();
+        if let Some(status) = self.all.get(place) {
+            status.notice.raise();
+        }
+    }
+
+    fn note_held(&mut self, place: usize, held: Amount) {
+        if let Some(status) = self.all.get(place) {
+            status.set_held(held.values, held.octets);
         }
     }
 }

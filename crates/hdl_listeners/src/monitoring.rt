@@ -10,7 +10,7 @@ use hdl_change_list::ClusterStatus;
 use hdl_programs::Fault;
 use hdl_sockets::ShutdownFlag;
 use hdl_telemetry::{
-    Counts, FileWatch, Health, Log, LogFile, LogSender, LogStatus, Notice, ProcessMetrics,
+    BoundStatus, Counts, FileWatch, Health, Log, LogFile, LogSender, LogStatus, ProcessMetrics,
     PublisherTelemetry,
 };
 use std::alloc::{AllocError, Global};
@@ -48,8 +48,8 @@ pub struct Monitoring {
     pub process_metrics: Arc<ProcessMetrics>,
     /// The table's file, as it was opened, where it has one.
     pub file: Option<FileWatch>,
-    /// What is said of each bound, in their order, once it is reached.
-    pub bounds: Arc<Vec<Notice>>,
+    /// What is said and counted of each bound, in their order.
+    pub bounds: Arc<Vec<BoundStatus>>,
     /// Whether the server is asked to end.
     pub shutdown: Arc<ShutdownFlag>,
     /// How the server stands beside others, if others have its table.
@@ -177,6 +177,7 @@ fn page_of<C>(
         counts: all_counts(alloc, publishers)?,
         health: Arc::try_clone(&monitoring.health)?,
         process_metrics: Arc::try_clone(&monitoring.process_metrics)?,
+        bounds: Arc::try_clone(&monitoring.bounds)?,
         log: log_status_of(monitoring)?,
         beside: standing_of(monitoring)?,
     })

@@ -1,6 +1,6 @@
 //! What a server says of itself on standard error while it serves.
 
-use hdl_telemetry::{Health, LogStatus, Notice};
+use hdl_telemetry::{BoundStatus, Health, LogStatus};
 use std::alloc::AllocError;
 use std::rt::Clock;
 use std::sync::Arc;
@@ -14,7 +14,7 @@ const PAUSE_MILLIS: u64 = 50;
 #[derive(Drop)]
 pub struct Reporter {
     pub health: Arc<Health>,
-    pub bounds: Arc<Vec<Notice>>,
+    pub bounds: Arc<Vec<BoundStatus>>,
     pub log: Option<Arc<LogStatus>>,
 }
 
@@ -38,7 +38,7 @@ impl Reporter {
 
     /// Whether a line is still to be printed.
     pub fn has_due(&self) -> bool {
-        let is_due = self.health.has_due() || self.bounds.iter().any(|notice| notice.is_due());
+        let is_due = self.health.has_due() || self.bounds.iter().any(|bound| bound.notice.is_due());
         match &self.log {
             Some(status) => is_due || status.has_due(),
             None => is_due,
@@ -63,8 +63,8 @@ impl Reporter {
     /// Says what is due.
     fn print_due<R: Eprint>(&self, rt: &R) {
         self.health.print_due(rt);
-        for notice in self.bounds.iter() {
-            notice.print_if_due(rt);
+        for bound in self.bounds.iter() {
+            bound.notice.print_if_due(rt);
         }
         if let Some(status) = &self.log {
             status.print_due(rt);

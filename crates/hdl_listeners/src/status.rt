@@ -3,7 +3,7 @@
 use crate::clients::{RequestHandler, Response};
 use hdl_change_list::ClusterStatus;
 use hdl_programs::VERSION;
-use hdl_telemetry::{Counts, Health, LogStatus, ProcessMetrics};
+use hdl_telemetry::{BoundStatus, Counts, Health, LogStatus, ProcessMetrics, put_bounds};
 use httparse::Status;
 use httparse::spans::{EMPTY_HEADER_SPAN, parse_request};
 use std::alloc::{AllocError, Global};
@@ -24,6 +24,8 @@ pub struct StatusPage {
     pub health: Arc<Health>,
     /// What the server takes of the machine.
     pub process_metrics: Arc<ProcessMetrics>,
+    /// What publishers with a bound hold.
+    pub bounds: Arc<Vec<BoundStatus>>,
     /// How the lines of the log go, where there is one.
     pub log: Option<Arc<LogStatus>>,
     /// How the server stands beside the others, if others have its table.
@@ -187,6 +189,7 @@ impl StatusPage {
             "# HELP handled_build_info The program's version.\n# TYPE handled_build_info gauge\nhandled_build_info{{version=\"{VERSION}\"}} 1"
         )?;
         self.put_counts(out)?;
+        put_bounds(out, self.bounds.as_slice())?;
         self.put_table(out)?;
         self.put_memory(out)?;
         self.put_standing(out)?;

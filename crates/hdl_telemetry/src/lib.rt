@@ -36,6 +36,7 @@
 //! - **A notice is a flag**, raised by the thread that serves, and printed within a tenth of a second; its line is made at the start, so that it needs no memory once that is refused.
 #![tactic(auto)]
 
+mod bound_status;
 mod counts;
 mod file_watch;
 mod health;
@@ -49,6 +50,7 @@ mod process_metrics;
 mod recorder;
 mod stopwatch;
 
+pub use bound_status::{BoundStatus, put_bounds};
 pub use counts::Counts;
 pub use file_watch::{FileChange, FileWatch};
 pub use health::Health;
