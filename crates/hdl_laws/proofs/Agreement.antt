@@ -19,7 +19,7 @@ use Rattle.hdl_tenants.specs.Register.{root}
 use Rattle.hdl_msg.specs.Message.{Content}
 use Rattle.hdl_ops.specs.Admission.{refusal}
 use Rattle.hdl_ops.specs.Requests.{sent_handle, handle_of, is_list}
-use Rattle.hdl_ops.specs.Sights.{TableView, sight}
+use Rattle.hdl_ops.specs.TableViews.{TableView, table_view}
 use Rattle.hdl_ops.specs.Anyone.{code_for_anyone}
 use Rattle.hdl_ops.specs.Proven.{Proof, target, key_of, MaskOf, value_at, code_before_key, code_for_key, IsCodeBy}
 use Rattle.hdl_auth.specs.declared.algorithm.Algorithm.{Algorithm}
@@ -43,8 +43,8 @@ module _ (hosted : List ℕ → Bool) (C : List Place) (t t' : Table) (agree : A
       ∙ gated_and (same_handle (authority h) a) _ _ (λ e. agree.handles h (ap hosted (prefix_by_authority h a e other) ∙ mine))
       ∙ sym (contains-retained handle_antisymmetric t'.handles (λ g. same_handle (authority g) a) h)))
 
-  pub sight_agrees : (r : Content) → Passes hosted r → IsFalse (hosted root) → sight t r ≡ sight t' r
-  unfolding sight
+  pub sight_agrees : (r : Content) → Passes hosted r → IsFalse (hosted root) → table_view t r ≡ table_view t' r
+  unfolding table_view
   sight_agrees r passes rootless =
       let mine = handle_is_hosted hosted r passes in
       λ i. record {
@@ -111,7 +111,7 @@ module _ (hosted : List ℕ → Bool) (C : List Place) (t t' : Table) (agree : A
         let k = key_of p in (
           is.0,
           mask_of_agrees (target r.operation) k is.0 own is.1,
-          is.2 ∙ key_agrees (sight t r) r p (target r.operation) k is.0 own is.1 ∙ ap (λ s. code_for_key s r p is.0 (value_at t' k)) (sight_agrees r passes rootless),
+          is.2 ∙ key_agrees (table_view t r) r p (target r.operation) k is.0 own is.1 ∙ ap (λ s. code_for_key s r p is.0 (value_at t' k)) (sight_agrees r passes rootless),
         )
 
     decides_agrees_by : IsFalse (hosted root) → (a : Algorithm) (r : Content) (level : Level) (d : Decision) (c : Option ℕ) → refusal hosted r ≡ c → DecidesBy a t r level c d → DecidesBy a t' r level c d
@@ -121,7 +121,7 @@ module _ (hosted : List ℕ → Bool) (C : List Place) (t t' : Table) (agree : A
     decides_agrees_by rootless a r (Proven p) d None e is =
         let passes = passes_unless_refused hosted r e in (
           is.0,
-          subst (λ s. IsCodeBy t' r p (code_before_key s r p) is.0) (sight_agrees r passes rootless) (code_agrees_by r p passes rootless (code_before_key (sight t r) r p) is.0 is.1),
+          subst (λ s. IsCodeBy t' r p (code_before_key s r p) is.0) (sight_agrees r passes rootless) (code_agrees_by r p passes rootless (code_before_key (table_view t r) r p) is.0 is.1),
           is.2 ∙ ap (λ s. decision a s r (Proven p) is.0) (sight_agrees r passes rootless),
         )
 

@@ -18,7 +18,7 @@ use Rattle.hdl_ops.specs.Admission.{refusal, request_algorithm}
 use Rattle.hdl_ops.specs.Decisions.{Level, Anyone, Proven, Decision, DecidesBy, decision, refusal_decision, success, failure, carried_content, change_of}
 use Rattle.hdl_ops.specs.Replies.{fits}
 use Rattle.hdl_ops.specs.Requests.{Response, response_of, stored_operation, with_stored}
-use Rattle.hdl_ops.specs.Sights.{TableView, sight}
+use Rattle.hdl_ops.specs.TableViews.{TableView, table_view}
 use Rattle.hdl_ops.specs.Tables.{apply_if}
 use Rattle.hdl_ops.proofs.SiteDecisions.{site_changes_nothing}
 use Rattle.hdl_events.specs.declared.What.{What}
@@ -143,8 +143,8 @@ module _ (hosted : List ℕ → Bool) (t : Table) where
 
   decided_keeps : (a : Algorithm) (r : Content) (level : Level) (d : Decision) (c : Option ℕ) → change_of r.operation ≡ None → DecidesBy a t r level c d → d.change ≡ None
   decided_keeps a r level d (Some code) none is = ap (λ (z : Decision). z.change) is ∙ refused_keeps r code
-  decided_keeps a r Anyone d None none is = ap (λ (z : Decision). z.change) is ∙ decision_keeps a (sight t r) r Anyone _ none
-  decided_keeps a r (Proven p) d None none is = ap (λ (z : Decision). z.change) is.2 ∙ decision_keeps a (sight t r) r (Proven p) is.0 none
+  decided_keeps a r Anyone d None none is = ap (λ (z : Decision). z.change) is ∙ decision_keeps a (table_view t r) r Anyone _ none
+  decided_keeps a r (Proven p) d None none is = ap (λ (z : Decision). z.change) is.2 ∙ decision_keeps a (table_view t r) r (Proven p) is.0 none
 
   asked_keeps : (b : Bool) (x y : Effect) → x.change ≡ None → y.change ≡ None → (cond b x y).change ≡ None
   asked_keeps true x y e f = e

@@ -21,7 +21,7 @@ use Rattle.hdl_ops.specs.declared.change.Change.TheVariants.{Create, Delete, Add
 use Rattle.hdl_ops.specs.Admission.{refusal, request_algorithm}
 use Rattle.hdl_ops.specs.Requests.{Response, sent_handle, response_of, stored_operation}
 use Rattle.hdl_ops.proofs.Stored.{stored_handle}
-use Rattle.hdl_ops.specs.Sights.{TableView, sight}
+use Rattle.hdl_ops.specs.TableViews.{TableView, table_view}
 use Rattle.hdl_ops.specs.Replies.{fits}
 use Rattle.hdl_ops.specs.Decisions.{Level, Anyone, Proven, Decision, DecidesBy, decision, refusal_decision, success, failure, carried_content, change_of}
 use Rattle.hdl_ops.proofs.Passed.{Passes, passes_unless_refused, canonical_is_hosted}
@@ -171,8 +171,8 @@ module _ (hosted : List ℕ → Bool) (t : Table) where
 
   decided_change : (a : Algorithm) (r : Content) (level : Level) (d : Decision) (c : Option ℕ) → refusal hosted r ≡ c → DecidesBy a t r level c d → ChangesHosted hosted d.change
   decided_change a r level d (Some code) e is x k = absurd (some_none x (sym k ∙ ap (λ (z : Decision). z.change) is ∙ refused_change r code))
-  decided_change a r Anyone d None e is x k = decision_change a (sight t r) r Anyone _ (passes_unless_refused hosted r e) x (sym (ap (λ (z : Decision). z.change) is) ∙ k)
-  decided_change a r (Proven p) d None e is x k = decision_change a (sight t r) r (Proven p) is.0 (passes_unless_refused hosted r e) x (sym (ap (λ (z : Decision). z.change) is.2) ∙ k)
+  decided_change a r Anyone d None e is x k = decision_change a (table_view t r) r Anyone _ (passes_unless_refused hosted r e) x (sym (ap (λ (z : Decision). z.change) is) ∙ k)
+  decided_change a r (Proven p) d None e is x k = decision_change a (table_view t r) r (Proven p) is.0 (passes_unless_refused hosted r e) x (sym (ap (λ (z : Decision). z.change) is.2) ∙ k)
 
   asked_effect : (b : Bool) (x y : Effect) → x.change ≡ None → ChangesHosted hosted y.change → ChangesHosted hosted (cond b x y).change
   asked_effect true x y none f z e = absurd (some_none z (sym e ∙ none))

@@ -20,7 +20,7 @@ use Rattle.hdl_ops.specs.declared.change.Change.{Change}
 use Rattle.hdl_ops.specs.Admission.{refusal, request_algorithm}
 use Rattle.hdl_ops.specs.Requests as requests
 use Rattle.hdl_ops.specs.Requests.{sent_handle, resolves, is_list, stored_operation}
-use Rattle.hdl_ops.specs.Sights.{TableView, sight, asks}
+use Rattle.hdl_ops.specs.TableViews.{TableView, table_view, asks}
 use Rattle.hdl_ops.specs.Proven.{Proof}
 use Rattle.hdl_ops.specs.Replies.{fits}
 use Rattle.hdl_ops.specs.Decisions.{Level, Anyone, Proven, Decision, DecidesBy, decision, success, failure, show, carried_content, carried_by, may_read, change_of}
@@ -105,8 +105,8 @@ module _ (H : List (List ℕ)) (t t' : Table) (twins : AreTwins H t t') where
       ∙ gated_map (readable H h) (same_handle p.handle h) (at t p) (at t' p) (λ e. subst (λ g. option_map (readable H g) (at t p) ≡ option_map (readable H g) (at t' p)) (handles_equal _ _ e) (twins.values p))
       ∙ sym (ap (option_map (readable H h)) (get-retained place_antisymmetric t'.values (λ q. same_handle q.handle h) p)))
 
-  show_twin : (r : Content) (level : Level) → Reads (is_authorised H (requests.handle_of r)) level → show (sight t r) r level ≡ show (sight t' r) r level
-  unfolding sight
+  show_twin : (r : Content) (level : Level) → Reads (is_authorised H (requests.handle_of r)) level → show (table_view t r) r level ≡ show (table_view t' r) r level
+  unfolding table_view
   show_twin r level reads =
       let h = requests.handle_of r in
       sym (wanted_readable H h level r.operation reads (values_of t h))
@@ -116,11 +116,11 @@ module _ (H : List (List ℕ)) (t t' : Table) (twins : AreTwins H t t') where
   names_twin : (a : List ℕ) → names_of t a ≡ names_of t' a
   names_twin a = ap (λ s. in_order (set.retain s (λ h. same_handle (authority h) a))) twins.handles
 
-  sight_names_twin : (r : Content) → (sight t r).names ≡ (sight t' r).names
-  unfolding sight
+  sight_names_twin : (r : Content) → (table_view t r).names ≡ (table_view t' r).names
+  unfolding table_view
   sight_names_twin r = ap (λ names. if is_list r.operation then names else []) (names_twin (prefix (sent_handle r.operation)))
 
-  carried_twin : (o : Operation) (r : Content) (level : Level) → (IsTrue (resolves o) → Reads (is_authorised H (requests.handle_of r)) level) → carried_by o (sight t r) r level ≡ carried_by o (sight t' r) r level
+  carried_twin : (o : Operation) (r : Content) (level : Level) → (IsTrue (resolves o) → Reads (is_authorised H (requests.handle_of r)) level) → carried_by o (table_view t r) r level ≡ carried_by o (table_view t' r) r level
   carried_twin (resolution handle indexes types) r level f = ap (Values r.wire handle) (show_twin r level (f refl))
   carried_twin (list handle) r level f = ap Handles (sight_names_twin r)
   carried_twin (create handle values) r level f = refl
@@ -132,16 +132,16 @@ module _ (H : List (List ℕ)) (t t' : Table) (twins : AreTwins H t t') where
   carried_twin (site_info octets) r level f = refl
   carried_twin (other octets) r level f = refl
 
-  success_twin : (r : Content) (level : Level) → (IsTrue (resolves r.operation) → Reads (is_authorised H (requests.handle_of r)) level) → success (sight t r) r level ≡ success (sight t' r) r level
+  success_twin : (r : Content) (level : Level) → (IsTrue (resolves r.operation) → Reads (is_authorised H (requests.handle_of r)) level) → success (table_view t r) r level ≡ success (table_view t' r) r level
   success_twin r level f = λ i. record { code = 1; content = carried_twin r.operation r level f i; change = change_of (stored_operation r) }
 
   -- decisions of one code are one
   decides_twin : (g : Algorithm) (r : Content) (level : Level) (d d' : Decision) (c : Option ℕ) → DecidesBy g t r level c d → DecidesBy g t' r level c d' → d.code ≡ d'.code → (d.code ≡ 1 → IsTrue (resolves r.operation) → Reads (is_authorised H (requests.handle_of r)) level) → d ≡ d'
   decides_twin g r level d d' (Some c) a b e f = a ∙ sym b
   decides_twin g r Anyone d d' None a b e f =
-      forms_twin (sight t r) (sight t' r) r Anyone d d' (subst (IsFormOf (sight t r) r Anyone) (sym a) (decision_form g (sight t r) r Anyone _)) (subst (IsFormOf (sight t' r) r Anyone) (sym b) (decision_form g (sight t' r) r Anyone _)) e (λ is. success_twin r Anyone (f is))
+      forms_twin (table_view t r) (table_view t' r) r Anyone d d' (subst (IsFormOf (table_view t r) r Anyone) (sym a) (decision_form g (table_view t r) r Anyone _)) (subst (IsFormOf (table_view t' r) r Anyone) (sym b) (decision_form g (table_view t' r) r Anyone _)) e (λ is. success_twin r Anyone (f is))
   decides_twin g r (Proven p) d d' None a b e f =
-      forms_twin (sight t r) (sight t' r) r (Proven p) d d' (subst (IsFormOf (sight t r) r (Proven p)) (sym a.2) (decision_form g (sight t r) r (Proven p) a.0)) (subst (IsFormOf (sight t' r) r (Proven p)) (sym b.2) (decision_form g (sight t' r) r (Proven p) b.0)) e (λ is. success_twin r (Proven p) (f is))
+      forms_twin (table_view t r) (table_view t' r) r (Proven p) d d' (subst (IsFormOf (table_view t r) r (Proven p)) (sym a.2) (decision_form g (table_view t r) r (Proven p) a.0)) (subst (IsFormOf (table_view t' r) r (Proven p)) (sym b.2) (decision_form g (table_view t' r) r (Proven p) b.0)) e (λ is. success_twin r (Proven p) (f is))
 
   abbrev effect_code : Effect → ℕ
   effect_code x = code_of x.outcome

@@ -24,7 +24,7 @@ use Rattle.hdl_ops.specs.Laws.{content_by_code}
 use Rattle.hdl_ops.specs.Proven.{Proof, key_of, value_at, code_before_key, code_after_key, code_for_key, IsCodeBy}
 use Rattle.hdl_ops.specs.Replies.{digest_of, asked_digest, fits, reply_to, challenge_to}
 use Rattle.hdl_ops.specs.Requests.{sent_handle, is_unused, wants_digest}
-use Rattle.hdl_ops.specs.Sights.{TableView, sight}
+use Rattle.hdl_ops.specs.TableViews.{TableView, table_view}
 use Rattle.hdl_ops.proofs.Codes.{codes_pass, tells_by_code_lem}
 
 -- ---- the digest
@@ -87,9 +87,9 @@ module _ (hosts : List ℕ → Bool) (a : Algorithm) (t : Table) (r : Content) (
   told_form code has used e = pick (code == 1) refl (code == 302) (code == 402) e
     where
       pick : (x : Bool) → code == 1 ≡ x → (y z : Bool) → z ≡ false
-          → form_of (cond {A = ReplyContent} x (carried_content (sight t r) r level) (cond {A = ReplyContent} y (Referral (sent_prefix (sent_handle r.operation))) Empty))
+          → form_of (cond {A = ReplyContent} x (carried_content (table_view t r) r level) (cond {A = ReplyContent} y (Referral (sent_prefix (sent_handle r.operation))) Empty))
           ≡ cond {A = ReplyForm} x (success_form (op_code_of r.header.op_code)) (cond {A = ReplyForm} y form.Referral (cond {A = ReplyForm} z form.Nonce form.Empty))
-      pick true is y z e = carried_form r.operation (sight t r) r level (used (eqb-true _ _ is)) ∙ ap success_form (sym (op_code_again (code_of r.operation) r.header.op_code has))
+      pick true is y z e = carried_form r.operation (table_view t r) r level (used (eqb-true _ _ is)) ∙ ap success_form (sym (op_code_again (code_of r.operation) r.header.op_code has))
       pick false is true z e = refl
       pick false is false true e = absurd cc
       pick false is false false e = refl
@@ -131,7 +131,7 @@ key_code s r p (Some m) k = codes_pass no_challenge _ 1 refl refl
 
 proof_code : (t : Table) (r : Content) (p : Proof) (early : Option ℕ) (c : ℕ) → IsTrue (no_challenge (or_code early 0)) → IsCodeBy t r p early c → IsTrue (no_challenge c)
 proof_code t r p (Some e) c f is = ap no_challenge is ∙ f
-proof_code t r p None c f is = ap no_challenge is.2 ∙ key_code (sight t r) r p is.0 (value_at t (key_of p))
+proof_code t r p None c f is = ap no_challenge is.2 ∙ key_code (table_view t r) r p is.0 (value_at t (key_of p))
 
 refusal_code : (hosts : List ℕ → Bool) (r : Content) → IsTrue (no_challenge (or_code (refusal hosts r) 0))
 unfolding refusal
@@ -151,7 +151,7 @@ module _ (hosts : List ℕ → Bool) (a : Algorithm) (t : Table) (r : Content) (
   unfolding refusal_decision
   code_by (Some c) e is = ap (λ (x : Decision). no_challenge x.code) is ∙ ap (λ (o : Option ℕ). no_challenge (or_code o 0)) (sym e) ∙ refusal_code hosts r
   code_by None e is =
-      ap (λ (x : Decision). no_challenge x.code) is.2 ∙ decision_code a (sight t r) r (Proven p) is.0 (proof_code t r p (code_before_key (sight t r) r p) is.0 (before_code (sight t r) r p) is.1)
+      ap (λ (x : Decision). no_challenge x.code) is.2 ∙ decision_code a (table_view t r) r (Proven p) is.0 (proof_code t r p (code_before_key (table_view t r) r p) is.0 (before_code (table_view t r) r p) is.1)
 
   pub proven_code : Decides hosts a t r (Proven p) d → d.code == 402 ≡ false
   proven_code decided = not-true (d.code == 402) (code_by (refusal hosts r) refl decided)

@@ -17,7 +17,7 @@ use Rattle.hdl_ops.specs.Requests.{handle_of, creates, resolves, with_stored, st
 use Rattle.hdl_ops.proofs.Stored.{any_stored}
 use Rattle.hdl_ops.specs.Tables.{CanApply}
 use Rattle.hdl_ops.specs.Admission.{refusal, has_twins, is_bad_list, are_bad, is_bad_write}
-use Rattle.hdl_ops.specs.Sights.{TableView, sight, passes, passes_at}
+use Rattle.hdl_ops.specs.TableViews.{TableView, table_view, passes, passes_at}
 use Rattle.hdl_ops.specs.Anyone.{is_open, is_open_write, code_for_anyone}
 use Rattle.hdl_ops.specs.Proven.{Proof, misses_at, takes_at, misses, takes, code_before_key, code_after_key, code_for_key, value_at, key_of, IsCodeBy}
 use Rattle.hdl_ops.specs.Decisions.{Level, Anyone, Proven, Decision, success, failure, carried_content, change_of, decision, DecidesBy}
@@ -122,9 +122,9 @@ not_false true h = refl
 not_false false h = absurd (true≢false h)
 
 -- such a change can be applied
-changes : (t : Table) (wire : Wire) (header : Header) (o : Operation) (s : TableView) → s ≡ sight t (record { wire = wire; header = header; operation = o }) → HaveTheirIndexes t (handle_of (record { wire = wire; header = header; operation = o })) s.values
+changes : (t : Table) (wire : Wire) (header : Header) (o : Operation) (s : TableView) → s ≡ table_view t (record { wire = wire; header = header; operation = o }) → HaveTheirIndexes t (handle_of (record { wire = wire; header = header; operation = o })) s.values
     → is_bad_write (with_stored wire o) ≡ false → Stands s o → IfSome (change_of (with_stored wire o)) (CanApply t)
-unfolding sight handle_of
+unfolding table_view handle_of
 changes t wire header (resolution handle is ts) s see by good stands = tt
 changes t wire header (create handle vs) s see by good stands =
     (sym (ap (λ (x : TableView). x.there) see) ∙ stands.0, good_values (map (stored_by wire) vs) (or_false (are_bad (map (stored_by wire) vs)) (not (list_any is_admin (map (stored_by wire) vs))) good).0)
@@ -177,7 +177,7 @@ open_stands (site_info octets) vs h = (refl, refl)
 open_stands (other octets) vs h = (refl, refl)
 
 -- a resolution changes nothing
-anyone_stands : (t : Table) (wire : Wire) (header : Header) (o : Operation) (s : TableView) → s ≡ sight t (record { wire = wire; header = header; operation = o }) → HaveTheirIndexes t (handle_of (record { wire = wire; header = header; operation = o })) s.values
+anyone_stands : (t : Table) (wire : Wire) (header : Header) (o : Operation) (s : TableView) → s ≡ table_view t (record { wire = wire; header = header; operation = o }) → HaveTheirIndexes t (handle_of (record { wire = wire; header = header; operation = o })) s.values
     → is_bad_write (with_stored wire o) ≡ false → code_for_anyone s (record { wire = wire; header = header; operation = o }) ≡ 1 → IfSome (change_of (with_stored wire o)) (CanApply t)
 unfolding code_for_anyone
 anyone_stands t wire header o s see by good one =
@@ -235,11 +235,11 @@ early s r p one =
     let absent = past_row _ 100 _ 0 (λ e. omega (arith, e)) there.1 in
     no_rows_left absent.1
 
-key_stands : (t : Table) (s : TableView) (r : Content) (p : Proof) (o : Option ℕ) (code : ℕ) → code_before_key s r p ≡ o → s ≡ sight t r → IsCodeBy t r p o code → code ≡ 1 → Stands s r.operation
+key_stands : (t : Table) (s : TableView) (r : Content) (p : Proof) (o : Option ℕ) (code : ℕ) → code_before_key s r p ≡ o → s ≡ table_view t r → IsCodeBy t r p o code → code ≡ 1 → Stands s r.operation
 key_stands t s r p (Some c) code e see is one = absurd (early s r p (ap (λ x. or_code x 0) e ∙ sym is ∙ one))
 key_stands t s r p None code e see is one = by_mask is.0 (sym is.2 ∙ one)
   where
-    by_mask : (m : Option ℕ) → code_for_key (sight t r) r p m (value_at t (key_of p)) ≡ 1 → Stands s r.operation
+    by_mask : (m : Option ℕ) → code_for_key (table_view t r) r p m (value_at t (key_of p)) ≡ 1 → Stands s r.operation
     by_mask None h = absurd (omega (arith, h))
     by_mask (Some mask) h =
         let b = before s r p e in
@@ -267,18 +267,18 @@ admitted hosts r none =
     let hosted = no_row _ 302 _ made.1 in
     (no_row (is_bad_write (stored_operation r)) 202 _ hosted.1).0
 
-decided : (hosts : List ℕ → Bool) (a : Algorithm) (t : Table) (r : Content) (level : Level) (d : Decision) → refusal hosts r ≡ None → HaveTheirIndexes t (handle_of r) (sight t r).values → DecidesBy a t r level None d → IfSome d.change (CanApply t)
+decided : (hosts : List ℕ → Bool) (a : Algorithm) (t : Table) (r : Content) (level : Level) (d : Decision) → refusal hosts r ≡ None → HaveTheirIndexes t (handle_of r) (table_view t r).values → DecidesBy a t r level None d → IfSome d.change (CanApply t)
 decided hosts a t r Anyone d none by is =
     subst (λ (x : Decision). IfSome x.change (CanApply t)) (sym is)
-    (by_code a t (sight t r) r Anyone (code_for_anyone (sight t r) r) (λ one. anyone_stands t r.wire r.header r.operation (sight t r) refl by (admitted hosts r none) one))
+    (by_code a t (table_view t r) r Anyone (code_for_anyone (table_view t r) r) (λ one. anyone_stands t r.wire r.header r.operation (table_view t r) refl by (admitted hosts r none) one))
 decided hosts a t r (Proven p) d none by is =
     subst (λ (x : Decision). IfSome x.change (CanApply t)) (sym is.2)
-    (by_code a t (sight t r) r (Proven p) is.0 (λ one. changes t r.wire r.header r.operation (sight t r) refl by (admitted hosts r none) (key_stands t (sight t r) r p (code_before_key (sight t r) r p) is.0 refl refl is.1 one)))
+    (by_code a t (table_view t r) r (Proven p) is.0 (λ one. changes t r.wire r.header r.operation (table_view t r) refl by (admitted hosts r none) (key_stands t (table_view t r) r p (code_before_key (table_view t r) r p) is.0 refl refl is.1 one)))
 
 pub passed : (hosts : List ℕ → Bool) (r : Content) (a : Admitted) (name : List ℕ) → a ≡ Passed name → IsAdmitted hosts r a → refusal hosts r ≡ None
 passed hosts r a name is admitted = (subst (IsAdmitted hosts r) is admitted).0
 
 pub can_apply : {E : Type 0} (hosts : List ℕ → Bool) (a : Algorithm) (t : Table) (r : Content) (level : Level) (result : Result code.Decision E) → refusal hosts r ≡ None → IfOk result (λ d. DecidesBy a t r level None (decision_of d))
-    → OnOk result (HaveTheirIndexes t (handle_of r) (sight t r).values) → IfOk result (λ d. IfSome d.change (CanApply t))
+    → OnOk result (HaveTheirIndexes t (handle_of r) (table_view t r).values) → IfOk result (λ d. IfSome d.change (CanApply t))
 can_apply hosts a t r level (Ok d) none is by = decided hosts a t r level (decision_of d) none by is
 can_apply hosts a t r level (Err e) none is by = tt

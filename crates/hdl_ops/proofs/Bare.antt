@@ -16,7 +16,7 @@ use Rattle.hdl_msg.specs.declared.codes.ResponseCode.TheVariants.{Success, Handl
 use Rattle.hdl_msg.specs.Message.{Content, Operation, resolution, site_info, create, delete, add, remove, modify, list, response, other}
 use Rattle.hdl_ops.specs.First.{first, or_code}
 use Rattle.hdl_ops.specs.Requests.{resolves, creates, is_public_only}
-use Rattle.hdl_ops.specs.Sights.{TableView, sight, bare, passes, passes_at, is_named, asks}
+use Rattle.hdl_ops.specs.TableViews.{TableView, table_view, bare, passes, passes_at, is_named, asks}
 use Rattle.hdl_ops.specs.Anyone.{is_left, is_open, is_open_write, code_for_anyone}
 use Rattle.hdl_ops.specs.Proven.{Proof, code_before_key, code_after_key, code_for_key, key_of, value_at, is_right, misses_at, takes_at, misses, takes, remove_needs, modify_needs, is_allowed, is_locked_at, is_locked, overfills, is_asked, IsCodeForKey, IsCodeBy, IsCodeForProof}
 use Rattle.hdl_ops.specs.Decisions.{Level, Anyone, Proven, Decision, decision}
@@ -204,16 +204,16 @@ key_bare s r p (Some m) k = behind_bare s r p m k
 
 -- ---- the code for a proof, by heads alone
 
-pub by_early : (t : Table) (r : Content) (p : Proof) (seen : TableView) (code : ℕ) → seen ≡ bare (sight t r) → code_before_key seen r p ≡ Some code → IsCodeForProof t r p code
+pub by_early : (t : Table) (r : Content) (p : Proof) (seen : TableView) (code : ℕ) → seen ≡ bare (table_view t r) → code_before_key seen r p ≡ Some code → IsCodeForProof t r p code
 by_early t r p seen code is early =
-    let e : code_before_key (sight t r) r p ≡ Some code = sym (before_bare (sight t r) r p) ∙ ap (λ (s : TableView). code_before_key s r p) (sym is) ∙ early in
+    let e : code_before_key (table_view t r) r p ≡ Some code = sym (before_bare (table_view t r) r p) ∙ ap (λ (s : TableView). code_before_key s r p) (sym is) ∙ early in
     subst (λ (o : Option ℕ). IsCodeBy t r p o code) (sym e) refl
 
-pub by_key : (t : Table) (r : Content) (p : Proof) (seen : TableView) (code : ℕ) → seen ≡ bare (sight t r) → code_before_key seen r p ≡ None → IsCodeForKey t seen r p code → IsCodeForProof t r p code
+pub by_key : (t : Table) (r : Content) (p : Proof) (seen : TableView) (code : ℕ) → seen ≡ bare (table_view t r) → code_before_key seen r p ≡ None → IsCodeForKey t seen r p code → IsCodeForProof t r p code
 by_key t r p seen code is early for_key =
-    let e : code_before_key (sight t r) r p ≡ None = sym (before_bare (sight t r) r p) ∙ ap (λ (s : TableView). code_before_key s r p) (sym is) ∙ early in
+    let e : code_before_key (table_view t r) r p ≡ None = sym (before_bare (table_view t r) r p) ∙ ap (λ (s : TableView). code_before_key s r p) (sym is) ∙ early in
     let v = value_at t (key_of p) in
-    let same : code_for_key seen r p for_key.0 v ≡ code_for_key (sight t r) r p for_key.0 v = ap (λ (s : TableView). code_for_key s r p for_key.0 v) is ∙ key_bare (sight t r) r p for_key.0 v in
+    let same : code_for_key seen r p for_key.0 v ≡ code_for_key (table_view t r) r p for_key.0 v = ap (λ (s : TableView). code_for_key s r p for_key.0 v) is ∙ key_bare (table_view t r) r p for_key.0 v in
     subst (λ (o : Option ℕ). IsCodeBy t r p o code) (sym e) (for_key.0, for_key.1, for_key.2 ∙ same)
 
 -- ---- what fails tells of nothing that is seen
@@ -228,29 +228,29 @@ failure_alike a s u r level code e = one_branch (code == response_number Success
 
 -- ---- the decision for anyone
 
-pub anyone_failed : (a : Algorithm) (t : Table) (r : Content) (seen : TableView) (code : ℕ) (d : Decision) → seen ≡ bare (sight t r) → code ≡ code_for_anyone seen r → (code == response_number Success) ≡ false
-    → d ≡ decision a seen r Anyone code → d ≡ decision a (sight t r) r Anyone (code_for_anyone (sight t r) r)
+pub anyone_failed : (a : Algorithm) (t : Table) (r : Content) (seen : TableView) (code : ℕ) (d : Decision) → seen ≡ bare (table_view t r) → code ≡ code_for_anyone seen r → (code == response_number Success) ≡ false
+    → d ≡ decision a seen r Anyone code → d ≡ decision a (table_view t r) r Anyone (code_for_anyone (table_view t r) r)
 anyone_failed a t r seen code d is coded fails decided =
-    decided ∙ failure_alike a seen (sight t r) r Anyone code fails ∙ ap (decision a (sight t r) r Anyone) (coded ∙ ap (λ (s : TableView). code_for_anyone s r) is ∙ anyone_bare (sight t r) r)
+    decided ∙ failure_alike a seen (table_view t r) r Anyone code fails ∙ ap (decision a (table_view t r) r Anyone) (coded ∙ ap (λ (s : TableView). code_for_anyone s r) is ∙ anyone_bare (table_view t r) r)
 
-pub anyone_granted : (a : Algorithm) (t u : Table) (r : Content) (seen more : TableView) (code : ℕ) (d : Decision) → u ≡ t → seen ≡ bare (sight t r) → code ≡ code_for_anyone seen r → code ≡ response_number Success
-    → decision a more r Anyone (response_number Success) ≡ decision a (sight u r) r Anyone (response_number Success) → d ≡ decision a more r Anyone code → d ≡ decision a (sight t r) r Anyone (code_for_anyone (sight t r) r)
+pub anyone_granted : (a : Algorithm) (t u : Table) (r : Content) (seen more : TableView) (code : ℕ) (d : Decision) → u ≡ t → seen ≡ bare (table_view t r) → code ≡ code_for_anyone seen r → code ≡ response_number Success
+    → decision a more r Anyone (response_number Success) ≡ decision a (table_view u r) r Anyone (response_number Success) → d ≡ decision a more r Anyone code → d ≡ decision a (table_view t r) r Anyone (code_for_anyone (table_view t r) r)
 anyone_granted a t u r seen more code d same is coded granted read decided =
-    decided ∙ ap (decision a more r Anyone) granted ∙ read ∙ ap (λ (v : Table). decision a (sight v r) r Anyone (response_number Success)) same
-    ∙ ap (decision a (sight t r) r Anyone) (sym granted ∙ coded ∙ ap (λ (s : TableView). code_for_anyone s r) is ∙ anyone_bare (sight t r) r)
+    decided ∙ ap (decision a more r Anyone) granted ∙ read ∙ ap (λ (v : Table). decision a (table_view v r) r Anyone (response_number Success)) same
+    ∙ ap (decision a (table_view t r) r Anyone) (sym granted ∙ coded ∙ ap (λ (s : TableView). code_for_anyone s r) is ∙ anyone_bare (table_view t r) r)
 
 -- ---- the decision for a proof
 
 pub proof_failed : (a : Algorithm) (t u : Table) (r : Content) (p : Proof) (seen : TableView) (code : ℕ) (d : Decision) → u ≡ t → IsCodeForProof u r p code → (code == response_number Success) ≡ false
-    → d ≡ decision a seen r (Proven p) code → (c : ℕ) × IsCodeForProof t r p c × (d ≡ decision a (sight t r) r (Proven p) c)
+    → d ≡ decision a seen r (Proven p) code → (c : ℕ) × IsCodeForProof t r p c × (d ≡ decision a (table_view t r) r (Proven p) c)
 proof_failed a t u r p seen code d same coded fails decided =
-    (code, subst (λ (v : Table). IsCodeForProof v r p code) same coded, decided ∙ failure_alike a seen (sight t r) r (Proven p) code fails)
+    (code, subst (λ (v : Table). IsCodeForProof v r p code) same coded, decided ∙ failure_alike a seen (table_view t r) r (Proven p) code fails)
 
 pub proof_granted : (a : Algorithm) (t u v : Table) (r : Content) (p : Proof) (more : TableView) (code : ℕ) (d : Decision) → u ≡ t → v ≡ t → IsCodeForProof u r p code → code ≡ response_number Success
-    → decision a more r (Proven p) (response_number Success) ≡ decision a (sight v r) r (Proven p) (response_number Success) → d ≡ decision a more r (Proven p) code
-    → (c : ℕ) × IsCodeForProof t r p c × (d ≡ decision a (sight t r) r (Proven p) c)
+    → decision a more r (Proven p) (response_number Success) ≡ decision a (table_view v r) r (Proven p) (response_number Success) → d ≡ decision a more r (Proven p) code
+    → (c : ℕ) × IsCodeForProof t r p c × (d ≡ decision a (table_view t r) r (Proven p) c)
 proof_granted a t u v r p more code d same again coded granted read decided = (
   code,
   subst (λ (w : Table). IsCodeForProof w r p code) same coded,
-  decided ∙ ap (decision a more r (Proven p)) granted ∙ read ∙ ap (λ (w : Table). decision a (sight w r) r (Proven p) (response_number Success)) again ∙ ap (decision a (sight t r) r (Proven p)) (sym granted),
+  decided ∙ ap (decision a more r (Proven p)) granted ∙ read ∙ ap (λ (w : Table). decision a (table_view w r) r (Proven p) (response_number Success)) again ∙ ap (decision a (table_view t r) r (Proven p)) (sym granted),
 )

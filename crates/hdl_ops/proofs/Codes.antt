@@ -11,7 +11,7 @@ use Rattle.hdl_msg.specs.declared.replies.ReplyContent.TheVariants.{Referral, Em
 use Rattle.hdl_ops.specs.First.{first, or_code}
 use Rattle.hdl_ops.specs.Admission.{refusal}
 use Rattle.hdl_ops.specs.Requests.{sent_handle}
-use Rattle.hdl_ops.specs.Sights.{TableView, sight}
+use Rattle.hdl_ops.specs.TableViews.{TableView, table_view}
 use Rattle.hdl_ops.specs.Anyone.{code_for_anyone}
 use Rattle.hdl_ops.specs.Proven.{Proof, key_of, value_at, code_before_key, code_after_key, code_for_key, IsCodeBy}
 use Rattle.hdl_auth.specs.declared.algorithm.Algorithm.{Algorithm}
@@ -61,7 +61,7 @@ key_code s r p (Some m) k = codes_pass is_table_code _ 1 refl refl
 
 proof_code : (t : Table) (r : Content) (p : Proof) (early : Option ℕ) (c : ℕ) → IsTrue (is_table_code (or_code early 0)) → IsCodeBy t r p early c → IsTrue (is_table_code c)
 proof_code t r p (Some e) c f is = ap is_table_code is ∙ f
-proof_code t r p None c f is = ap is_table_code is.2 ∙ key_code (sight t r) r p is.0 (value_at t (key_of p))
+proof_code t r p None c f is = ap is_table_code is.2 ∙ key_code (table_view t r) r p is.0 (value_at t (key_of p))
 
 refusal_code : (hosts : List ℕ → Bool) (r : Content) → IsTrue (is_refusal_code (or_code (refusal hosts r) 0))
 unfolding refusal
@@ -74,31 +74,31 @@ module _ (a : Algorithm) (t : Table) (r : Content) (level : Level) where
   abbrev TellsOnly : Decision → Type 0
   TellsOnly d = IsTrue (is_answer_code d.code) × (d.content ≡ content_by_code t r level d.code)
 
-  decision_tells : (c : ℕ) → IsTrue (is_table_code c) → TellsOnly (decision a (sight t r) r level c)
+  decision_tells : (c : ℕ) → IsTrue (is_table_code c) → TellsOnly (decision a (table_view t r) r level c)
   unfolding decision
-  decision_tells c e = pick (c == 1) refl (fits a r (carried_content (sight t r) r level))
+  decision_tells c e = pick (c == 1) refl (fits a r (carried_content (table_view t r) r level))
     where
-      pick : (x : Bool) → c == 1 ≡ x → (b : Bool) → TellsOnly (cond {A = Decision} x (cond {A = Decision} b (success (sight t r) r level) (failure 2 Empty)) (failure c Empty))
+      pick : (x : Bool) → c == 1 ≡ x → (b : Bool) → TellsOnly (cond {A = Decision} x (cond {A = Decision} b (success (table_view t r) r level) (failure 2 Empty)) (failure c Empty))
       pick true is true = (refl, refl)
       pick true is false = (refl, refl)
       pick false is b =
           let parts = and_parts (is_answer_code c) _ e in (
             parts.0,
-            sym (ap (λ x. cond x (carried_content (sight t r) r level) (cond (c == 302) (Referral (sent_prefix (sent_handle r.operation))) Empty)) is ∙ ap (λ x. cond x (Referral (sent_prefix (sent_handle r.operation))) Empty) (not-true (c == 302) parts.1)),
+            sym (ap (λ x. cond x (carried_content (table_view t r) r level) (cond (c == 302) (Referral (sent_prefix (sent_handle r.operation))) Empty)) is ∙ ap (λ x. cond x (Referral (sent_prefix (sent_handle r.operation))) Empty) (not-true (c == 302) parts.1)),
           )
 
   refused_tells : (c : ℕ) → IsTrue (is_refusal_code c) → TellsOnly (refusal_decision r c)
   unfolding refusal_decision
   refused_tells c e =
       let parts = and_parts (is_answer_code c) _ e in
-      (parts.0, sym (ap (λ x. cond x (carried_content (sight t r) r level) (cond (c == 302) (Referral (sent_prefix (sent_handle r.operation))) Empty)) (not-true (c == 1) parts.1)))
+      (parts.0, sym (ap (λ x. cond x (carried_content (table_view t r) r level) (cond (c == 302) (Referral (sent_prefix (sent_handle r.operation))) Empty)) (not-true (c == 1) parts.1)))
 
 tells_by : (hosts : List ℕ → Bool) (a : Algorithm) (t : Table) (r : Content) (level : Level) (d : Decision) (c : Option ℕ) → refusal hosts r ≡ c → DecidesBy a t r level c d → TellsOnly a t r level d
 tells_by hosts a t r level d (Some c) e is =
     subst (TellsOnly a t r level) (sym is) (refused_tells a t r level c (ap (λ o. is_refusal_code (or_code o 0)) (sym e) ∙ refusal_code hosts r))
-tells_by hosts a t r Anyone d None e is = subst (TellsOnly a t r Anyone) (sym is) (decision_tells a t r Anyone _ (anyone_code (sight t r) r))
+tells_by hosts a t r Anyone d None e is = subst (TellsOnly a t r Anyone) (sym is) (decision_tells a t r Anyone _ (anyone_code (table_view t r) r))
 tells_by hosts a t r (Proven p) d None e is =
-    subst (TellsOnly a t r (Proven p)) (sym is.2) (decision_tells a t r (Proven p) is.0 (proof_code t r p (code_before_key (sight t r) r p) is.0 (before_code (sight t r) r p) is.1))
+    subst (TellsOnly a t r (Proven p)) (sym is.2) (decision_tells a t r (Proven p) is.0 (proof_code t r p (code_before_key (table_view t r) r p) is.0 (before_code (table_view t r) r p) is.1))
 
 pub decides_code : (hosts : List ℕ → Bool) (a : Algorithm) (t : Table) (r : Content) (level : Level) (d : Decision) → Decides hosts a t r level d → IsTrue (is_answer_code d.code)
 decides_code hosts a t r level d is = (tells_by hosts a t r level d (refusal hosts r) refl is).0

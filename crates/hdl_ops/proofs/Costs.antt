@@ -23,10 +23,10 @@ use Rattle.hdl_ops.specs.Decisions.{Anyone, Proven}
 use Rattle.hdl_ops.specs.First.{first, or_code}
 use Rattle.hdl_ops.specs.Proven.{Proof}
 use Rattle.hdl_ops.specs.Requests.{handle_of, resolves, is_list}
-use Rattle.hdl_ops.specs.Sights.{TableView, sight}
+use Rattle.hdl_ops.specs.TableViews.{TableView, table_view}
 
-pub sight_read : (t : Table) (r : Content) (old new : ℕ) → new ≤ old + cost_of_heads (sight t r) → ReadsWithin t heads_cost old new
-unfolding sight
+pub sight_read : (t : Table) (r : Content) (old new : ℕ) → new ≤ old + cost_of_heads (table_view t r) → ReadsWithin t heads_cost old new
+unfolding table_view
 sight_read t r old new read = heads_read t (handle_of r) old new read
 
 -- a value that was looked up, or a look that was refused

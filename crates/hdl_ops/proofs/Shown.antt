@@ -33,7 +33,7 @@ use Rattle.hdl_ops.specs.Decisions.{Level, Anyone, Proven, may_read, carried_con
 use Rattle.hdl_ops.specs.Replies.{reply_to, fits}
 use Rattle.hdl_ops.specs.Requests.{sent_handle, handle_of, resolves, is_list, stored_operation}
 use Rattle.hdl_ops.specs.Seeing.{one_or_none, found_at, whole_of, cost_of_reading, IsEnough}
-use Rattle.hdl_ops.specs.Sights.{TableView, sight, bare, asks}
+use Rattle.hdl_ops.specs.TableViews.{TableView, table_view, bare, asks}
 use Rattle.hdl_ops.proofs.Bare.{asks_head}
 
 -- ---- lists
@@ -177,16 +177,16 @@ module _ (a : Algorithm) (t : Table) (wire : Wire) (header : Header) (handle is 
     each_stands : AllByRecursion (Stands t h) shown
     each_stands = kept (Stands t h) (shows r level) (values_of t h) (stand_at_their_own t h have)
 
-    all_read : (s : TableView) → s.values ≡ whole_of t h (filter (shows r level) (map head (values_of t h))) → decision a s r level (response_number Success) ≡ decision a (sight t r) r level (response_number Success)
-    unfolding sight handle_of
+    all_read : (s : TableView) → s.values ≡ whole_of t h (filter (shows r level) (map head (values_of t h))) → decision a s r level (response_number Success) ≡ decision a (table_view t r) r level (response_number Success)
+    unfolding table_view handle_of
     all_read s read =
         let values : s.values ≡ shown = read ∙ ap (whole_of t h) shown_heads ∙ whole_heads t h shown each_stands in
         let same : filter (shows r level) s.values ≡ shown = ap (filter (shows r level)) values ∙ all_pass (shows r level) shown (each_passes (shows r level) (values_of t h)) in
-        alike a s (sight t r) r level (response_number Success) (ap (Values wire handle) same)
+        alike a s (table_view t r) r level (response_number Success) (ap (Values wire handle) same)
 
     too_much : (s : TableView) (k : ℕ) → s.values ≡ whole_of t h (take k (filter (shows r level) (map head (values_of t h)))) → READ_MAX < cost_of_reading t h (take k (filter (shows r level) (map head (values_of t h))))
-        → decision a s r level (response_number Success) ≡ decision a (sight t r) r level (response_number Success)
-    unfolding sight handle_of
+        → decision a s r level (response_number Success) ≡ decision a (table_view t r) r level (response_number Success)
+    unfolding table_view handle_of
     too_much s k read more =
         let heads : take k (filter (shows r level) (map head (values_of t h))) ≡ map head (take k shown) = ap (take k) shown_heads ∙ take_heads k shown in
         let stand : AllByRecursion (Stands t h) (take k shown) = taken (Stands t h) k shown each_stands in
@@ -194,11 +194,11 @@ module _ (a : Algorithm) (t : Table) (wire : Wire) (header : Header) (handle is 
         let same : filter (shows r level) s.values ≡ take k shown =
         ap (filter (shows r level)) values ∙ all_pass (shows r level) (take k shown) (taken (λ v. shows r level v ≡ true) k shown (each_passes (shows r level) (values_of t h))) in
         let some : READ_MAX < cost_of_shown (take k shown) = subst (λ n. READ_MAX < n) (ap (cost_of_reading t h) heads ∙ reading_costs t h (take k shown) stand) more in
-        both_too_long a s (sight t r) r level (response_number Success)
+        both_too_long a s (table_view t r) r level (response_number Success)
         (too_long a r wire handle (filter (shows r level) s.values) (subst (λ ws. READ_MAX < cost_of_shown ws) (sym same) some))
         (too_long a r wire handle shown (omega (arith, some, sum_by-take-le call_octets shown k)))
 
-    pub resolution_read : (s : TableView) → IsEnough t h (filter (shows r level) (map head (values_of t h))) s.values → decision a s r level (response_number Success) ≡ decision a (sight t r) r level (response_number Success)
+    pub resolution_read : (s : TableView) → IsEnough t h (filter (shows r level) (map head (values_of t h))) s.values → decision a s r level (response_number Success) ≡ decision a (table_view t r) r level (response_number Success)
     resolution_read s (inl all) = all_read s all
     resolution_read s (inr some) = too_much s some.0 some.1 some.2
 
@@ -207,7 +207,7 @@ module _ (a : Algorithm) (t : Table) (wire : Wire) (header : Header) (handle is 
 pub granted_resolution : (a : Algorithm) (t : Table) (wire : Wire) (header : Header) (o : Operation) (level : Level) (s : TableView) → resolves o ≡ true
     → HaveTheirIndexes t (canonical (sent_handle o)) (values_of t (canonical (sent_handle o)))
     → IsEnough t (canonical (sent_handle o)) (filter (λ v. asks o v && may_read level v) (map head (values_of t (canonical (sent_handle o))))) s.values
-    → decision a s (record { wire = wire; header = header; operation = o }) level (response_number Success) ≡ decision a (sight t (record { wire = wire; header = header; operation = o })) (record { wire = wire; header = header; operation = o }) level (response_number Success)
+    → decision a s (record { wire = wire; header = header; operation = o }) level (response_number Success) ≡ decision a (table_view t (record { wire = wire; header = header; operation = o })) (record { wire = wire; header = header; operation = o }) level (response_number Success)
 granted_resolution a t wire header (resolution handle is ts) level s e have enough = resolution_read a t wire header handle is ts level have s enough
 granted_resolution a t wire header (create handle news) level s e have enough = absurd (true≢false (sym e))
 granted_resolution a t wire header (delete handle) level s e have enough = absurd (true≢false (sym e))
@@ -220,9 +220,9 @@ granted_resolution a t wire header (site_info octets) level s e have enough = ab
 granted_resolution a t wire header (other octets) level s e have enough = absurd (true≢false (sym e))
 
 pub granted_list : (a : Algorithm) (t : Table) (wire : Wire) (header : Header) (o : Operation) (level : Level) (s : TableView) → is_list o ≡ true → s.names ≡ names_of t (prefix (sent_handle o))
-    → decision a s (record { wire = wire; header = header; operation = o }) level (response_number Success) ≡ decision a (sight t (record { wire = wire; header = header; operation = o })) (record { wire = wire; header = header; operation = o }) level (response_number Success)
-unfolding sight
-granted_list a t wire header (list handle) level s e names = alike a s (sight t (record { wire = wire; header = header; operation = list handle })) (record { wire = wire; header = header; operation = list handle }) level (response_number Success) (ap Handles names)
+    → decision a s (record { wire = wire; header = header; operation = o }) level (response_number Success) ≡ decision a (table_view t (record { wire = wire; header = header; operation = o })) (record { wire = wire; header = header; operation = o }) level (response_number Success)
+unfolding table_view
+granted_list a t wire header (list handle) level s e names = alike a s (table_view t (record { wire = wire; header = header; operation = list handle })) (record { wire = wire; header = header; operation = list handle }) level (response_number Success) (ap Handles names)
 granted_list a t wire header (resolution handle is ts) level s e names = absurd (true≢false (sym e))
 granted_list a t wire header (create handle news) level s e names = absurd (true≢false (sym e))
 granted_list a t wire header (delete handle) level s e names = absurd (true≢false (sym e))
@@ -234,10 +234,10 @@ granted_list a t wire header (site_info octets) level s e names = absurd (true�
 granted_list a t wire header (other octets) level s e names = absurd (true≢false (sym e))
 
 pub granted_write : (a : Algorithm) (t : Table) (wire : Wire) (header : Header) (o : Operation) (level : Level) (s : TableView) → resolves o ≡ false → is_list o ≡ false
-    → decision a s (record { wire = wire; header = header; operation = o }) level (response_number Success) ≡ decision a (sight t (record { wire = wire; header = header; operation = o })) (record { wire = wire; header = header; operation = o }) level (response_number Success)
+    → decision a s (record { wire = wire; header = header; operation = o }) level (response_number Success) ≡ decision a (table_view t (record { wire = wire; header = header; operation = o })) (record { wire = wire; header = header; operation = o }) level (response_number Success)
 granted_write a t wire header o level s e f = alike a s _ _ level (response_number Success) (nothing o e f)
   where
-    nothing : (o : Operation) → resolves o ≡ false → is_list o ≡ false → carried_content s (record { wire = wire; header = header; operation = o }) level ≡ carried_content (sight t (record { wire = wire; header = header; operation = o })) (record { wire = wire; header = header; operation = o }) level
+    nothing : (o : Operation) → resolves o ≡ false → is_list o ≡ false → carried_content s (record { wire = wire; header = header; operation = o }) level ≡ carried_content (table_view t (record { wire = wire; header = header; operation = o })) (record { wire = wire; header = header; operation = o }) level
     nothing (resolution handle is ts) e f = absurd (true≢false e)
     nothing (create handle news) e f = refl
     nothing (delete handle) e f = refl
@@ -251,10 +251,10 @@ granted_write a t wire header o level s e f = alike a s _ _ level (response_numb
 
 -- ---- what is seen of a request that is granted
 
-pub see_resolution : (a : Algorithm) (t : Table) (r : Content) (level : Level) (before after : TableView) (place : List ℕ) (heads : List Value) → before ≡ bare (sight t r) → place ≡ sent_handle r.operation → resolves r.operation ≡ true
-    → HaveTheirIndexes t (handle_of r) (sight t r).values → heads ≡ filter (λ v. asks r.operation v && may_read level v) before.values → IsEnough t (canonical place) heads after.values
-    → decision a after r level (response_number Success) ≡ decision a (sight t r) r level (response_number Success)
-unfolding sight handle_of
+pub see_resolution : (a : Algorithm) (t : Table) (r : Content) (level : Level) (before after : TableView) (place : List ℕ) (heads : List Value) → before ≡ bare (table_view t r) → place ≡ sent_handle r.operation → resolves r.operation ≡ true
+    → HaveTheirIndexes t (handle_of r) (table_view t r).values → heads ≡ filter (λ v. asks r.operation v && may_read level v) before.values → IsEnough t (canonical place) heads after.values
+    → decision a after r level (response_number Success) ≡ decision a (table_view t r) r level (response_number Success)
+unfolding table_view handle_of
 see_resolution a t r level before after place heads seen named e have kept enough =
     let all : heads ≡ filter (λ v. asks r.operation v && may_read level v) (map head (values_of t (canonical (sent_handle r.operation)))) =
     kept ∙ ap (λ (s : TableView). filter (λ v. asks r.operation v && may_read level v) s.values) seen in
@@ -262,11 +262,11 @@ see_resolution a t r level before after place heads seen named e have kept enoug
     (subst (λ hs. IsEnough t (canonical (sent_handle r.operation)) hs after.values) all (subst (λ p. IsEnough t (canonical p) heads after.values) named enough))
 
 pub see_list : (a : Algorithm) (t : Table) (r : Content) (level : Level) (after : TableView) → is_list r.operation ≡ true → after.names ≡ names_of t (prefix (sent_handle r.operation))
-    → decision a after r level (response_number Success) ≡ decision a (sight t r) r level (response_number Success)
+    → decision a after r level (response_number Success) ≡ decision a (table_view t r) r level (response_number Success)
 see_list a t r level after e names = granted_list a t r.wire r.header r.operation level after e names
 
 pub see_write : (a : Algorithm) (t : Table) (r : Content) (level : Level) (after : TableView) → resolves r.operation ≡ false → is_list r.operation ≡ false
-    → decision a after r level (response_number Success) ≡ decision a (sight t r) r level (response_number Success)
+    → decision a after r level (response_number Success) ≡ decision a (table_view t r) r level (response_number Success)
 see_write a t r level after e f = granted_write a t r.wire r.header r.operation level after e f
 
 -- ---- one head more

@@ -10,7 +10,7 @@ use Rattle.hdl_msg.specs.declared.codes.ResponseCode.TheVariants.{Success, Handl
 use Rattle.hdl_msg.specs.Message.{Content, Operation, remove, modify}
 use Rattle.hdl_ops.specs.First.{first, or_code}
 use Rattle.hdl_ops.specs.Requests.{resolves, creates, is_public_only}
-use Rattle.hdl_ops.specs.Sights.{TableView, asks, passes_at}
+use Rattle.hdl_ops.specs.TableViews.{TableView, asks, passes_at}
 
 -- what is left of a value without the hidden, with public-only also without the kept
 abbrev pub is_left : Content → Value → Bool

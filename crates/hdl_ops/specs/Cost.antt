@@ -8,7 +8,7 @@ use Rattle.hdl_reach.specs.Cost.{Most, value_cost, heads_cost, names_cost}
 use Rattle.hdl_cache.specs.Cost.{mask_cost}
 use Rattle.hdl_ops.specs.declared.seeing.TheConstants.{READ_MAX}
 use Rattle.hdl_ops.specs.Decisions.{Level, Anyone, Proven}
-use Rattle.hdl_ops.specs.Sights.{TableView}
+use Rattle.hdl_ops.specs.TableViews.{TableView}
 
 -- one look at the heads of the handle that is named
 abbrev pub cost_of_heads : TableView → ℕ

@@ -20,7 +20,7 @@ use Rattle.hdl_ops.specs.Anyone.{code_for_anyone}
 use Rattle.hdl_ops.specs.Proven.{Proof, IsCodeForProof}
 use Rattle.hdl_ops.specs.Replies.{fits}
 use Rattle.hdl_ops.specs.Requests.{sent_handle, stored_operation}
-use Rattle.hdl_ops.specs.Sights.{TableView, sight, asks}
+use Rattle.hdl_ops.specs.TableViews.{TableView, table_view, asks}
 
 -- at what level a request is decided
 pub data Level : Type 0 where
@@ -90,8 +90,8 @@ refusal_decision r code = failure code (if code == response_number ServiceReferr
 
 abbrev pub DecidesBy : Algorithm → Table → Content → Level → Option ℕ → Decision → Type 0
 DecidesBy a t r level (Some code) d = d ≡ refusal_decision r code
-DecidesBy a t r Anyone None d = d ≡ decision a (sight t r) r Anyone (code_for_anyone (sight t r) r)
-DecidesBy a t r (Proven p) None d = (code : ℕ) × IsCodeForProof t r p code × (d ≡ decision a (sight t r) r (Proven p) code)
+DecidesBy a t r Anyone None d = d ≡ decision a (table_view t r) r Anyone (code_for_anyone (table_view t r) r)
+DecidesBy a t r (Proven p) None d = (code : ℕ) × IsCodeForProof t r p code × (d ≡ decision a (table_view t r) r (Proven p) code)
 
 -- the decision about the request of this algorithm on this table, for a publisher who hosts these prefixes
 abbrev pub Decides : (List ℕ → Bool) → Algorithm → Table → Content → Level → Decision → Type 0

@@ -11,7 +11,7 @@ use Rattle.hdl_msg.specs.declared.replies.ReplyContent.TheVariants.{Referral, Em
 use Rattle.hdl_ops.specs.Decisions.{Level, Decision, Decides, carried_content}
 use Rattle.hdl_ops.specs.Replies.{fits}
 use Rattle.hdl_ops.specs.Requests.{sent_handle}
-use Rattle.hdl_ops.specs.Sights.{sight}
+use Rattle.hdl_ops.specs.TableViews.{table_view}
 
 -- a request is decided in one way
 abbrev pub OneDecision : Type 0
@@ -21,7 +21,7 @@ OneDecision = (hosts : List ℕ → Bool) (a : Algorithm) (t : Table) (r : Conte
 -- that is listed; with ServiceReferral the prefix that was named; nothing with another
 abbrev pub content_by_code : Table → Content → Level → ℕ → ReplyContent
 content_by_code t r level code =
-    if code == response_number Success then carried_content (sight t r) r level
+    if code == response_number Success then carried_content (table_view t r) r level
     else (if code == response_number ServiceReferral then Referral (sent_prefix (sent_handle r.operation)) else Empty)
 
 -- a decision tells what its code says, and no more

@@ -2,7 +2,7 @@ pub mod First
 pub mod Requests
 pub mod Tables
 pub mod Admission
-pub mod Sights
+pub mod TableViews
 pub mod Anyone
 pub mod Proven
 pub mod Decisions

@@ -22,7 +22,7 @@ use Rattle.hdl_msg.specs.Message.{Content, Operation, resolution, create, delete
 use Rattle.hdl_ops.specs.First.{first, or_code}
 use Rattle.hdl_ops.specs.Admission.{handle_in}
 use Rattle.hdl_ops.specs.Requests.{Response, sent_handle, resolves, creates}
-use Rattle.hdl_ops.specs.Sights.{TableView, sight, asks, passes, passes_at}
+use Rattle.hdl_ops.specs.TableViews.{TableView, table_view, asks, passes, passes_at}
 
 -- a challenge response, with the challenge's nonce and the challenged request's digest
 pub record Proof : Type 0 where
@@ -150,7 +150,7 @@ IsCodeForKey t s r p code = (m : Option ℕ) × MaskOf t (target r.operation) (k
 -- the mask is asked for only where nothing was refused before
 abbrev pub IsCodeBy : Table → Content → Proof → Option ℕ → ℕ → Type 0
 IsCodeBy t r p (Some early) code = code ≡ early
-IsCodeBy t r p None code = IsCodeForKey t (sight t r) r p code
+IsCodeBy t r p None code = IsCodeForKey t (table_view t r) r p code
 
 abbrev pub IsCodeForProof : Table → Content → Proof → ℕ → Type 0
-IsCodeForProof t r p code = IsCodeBy t r p (code_before_key (sight t r) r p) code
+IsCodeForProof t r p code = IsCodeBy t r p (code_before_key (table_view t r) r p) code

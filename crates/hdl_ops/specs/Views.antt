@@ -20,7 +20,7 @@ use Rattle.hdl_ops.specs.Replies.{fits}
 use Rattle.hdl_ops.specs.declared.requests.Response.{Response}
 use Rattle.hdl_ops.specs.Requests as requests
 use Rattle.hdl_ops.specs.Requests.{sent_handle}
-use Rattle.hdl_ops.specs.Sights as sights
+use Rattle.hdl_ops.specs.TableViews as views
 
 -- the prefixes that are hosted for the owner
 abbrev pub hosted_by : Owner → List ℕ → Bool
@@ -41,8 +41,8 @@ algorithms_by o = algorithm o.tenants.now o.publisher
 abbrev pub decision_of : Decision → d.Decision
 decision_of x = record { code = response_number x.code; content = x.content; change = x.change }
 
-abbrev pub sight_of : TableView → sights.TableView
-sight_of s = record { there = s.there; values = s.values.items; names = s.names.items }
+abbrev pub table_view_of : TableView → views.TableView
+table_view_of s = record { there = s.there; values = s.values.items; names = s.names.items }
 
 abbrev pub response_view : Response → requests.Response
 response_view a = record { kind = a.kind.now; handle = a.handle.now; index = a.index; answer = a.answer.now }

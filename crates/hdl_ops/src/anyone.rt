@@ -7,12 +7,12 @@ ghost use Rattle.hdl_value.specs.Refs.{is_admin};
 ghost use Rattle.hdl_msg.specs.Views.{operation_of, numbers_of, values_of};
 ghost use Rattle.hdl_msg.specs.Codes.{response_number};
 ghost use Rattle.hdl_ops.specs.Anyone.{is_left, is_open, is_open_write, code_for_anyone};
-ghost use Rattle.hdl_ops.specs.Sights.{passes_at};
-ghost use Rattle.hdl_ops.specs.Views.{sight_of};
+ghost use Rattle.hdl_ops.specs.TableViews.{passes_at};
+ghost use Rattle.hdl_ops.specs.Views.{table_view_of};
 
+use crate::asked_values::{asks, is_kept, is_public};
 use crate::decision::TableView;
 use crate::requests::{creates, is_public_only, resolves};
-use crate::sights::{asks, is_kept, is_public};
 use hdl_msg::{Body, Numbers, Request, ResponseCode, Values};
 use hdl_rows::value_with;
 use hdl_value::{CutValue, Permission, Value};
@@ -80,15 +80,15 @@ fn is_open_write(body: &Body<'_>, values: &[Value]) -> bool
 
 /// The code of the table of decision for anyone.
 #[tactic(auto, unfolding(crate::specs::Anyone::code_for_anyone, crate::specs::First::first))]
-pub(crate) fn code_for_anyone(request: &Request<'_>, sight: &TableView) -> ResponseCode
-    ensures { response_number result ≡ code_for_anyone (sight_of sight.now) request.now }
+pub(crate) fn code_for_anyone(request: &Request<'_>, table_view: &TableView) -> ResponseCode
+    ensures { response_number result ≡ code_for_anyone (table_view_of table_view.now) request.now }
 {
     let body = request.body();
-    let values = &sight.values;
-    if creates(body) && sight.there {
+    let values = &table_view.values;
+    if creates(body) && table_view.there {
         return ResponseCode::HandleAlreadyExists;
     }
-    if !creates(body) && !sight.there {
+    if !creates(body) && !table_view.there {
         return ResponseCode::HandleNotFound;
     }
     if resolves(body) && !any_left(request, values) {

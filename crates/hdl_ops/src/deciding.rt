@@ -10,7 +10,7 @@ ghost use Rattle.hdl_ops.specs.Decisions as decisions;
 ghost use Rattle.hdl_ops.specs.Decisions.{Decides, DecidesBy};
 ghost use Rattle.hdl_ops.specs.Replies.{fits};
 ghost use Rattle.hdl_ops.specs.Requests.{sent_handle, handle_of};
-ghost use Rattle.hdl_ops.specs.Sights.{sight};
+ghost use Rattle.hdl_ops.specs.TableViews.{table_view};
 ghost use Rattle.hdl_ops.specs.Tables.{CanApply};
 ghost use Rattle.hdl_ops.specs.Views.{decision_of, hosted_by, level_of, proof_of};
 
@@ -37,7 +37,7 @@ fn decide_for_anyone<R: Rows>(
     ensures unchanged { R.content rows.new ≡ R.content rows.old }
     ensures decided { IfOk result (λ d. DecidesBy asked.now.algorithm (R.content rows.old) asked.now.request.now decisions.Anyone None (decision_of d)) }
     ensures carried { IfOk result (λ d. IsTrue (fits asked.now.algorithm asked.now.request.now d.content)) }
-    ensures by_index { OnOk result (HaveTheirIndexes (R.content rows.old) (handle_of asked.now.request.now) (sight (R.content rows.old) asked.now.request.now).values) }
+    ensures by_index { OnOk result (HaveTheirIndexes (R.content rows.old) (handle_of asked.now.request.now) (table_view (R.content rows.old) asked.now.request.now).values) }
     ensures count { AreRefusalsAfter result (R.refused rows.old) (R.refused rows.new) }
     ensures cost { ReadsWithin (R.content rows.old) (decision_cost decisions.Anyone asked.now.request.now.operation) (R.reads rows.old) (R.reads rows.new) }
 {
@@ -63,7 +63,7 @@ fn decide_with_proof<R: Masked>(
     ensures unchanged { R.content rows.new ≡ R.content rows.old }
     ensures decided { IfOk result (λ d. DecidesBy asked.now.algorithm (R.content rows.old) asked.now.request.now (decisions.Proven (proof_of proof.now)) None (decision_of d)) }
     ensures carried { IfOk result (λ d. IsTrue (fits asked.now.algorithm asked.now.request.now d.content)) }
-    ensures by_index { OnOk result (HaveTheirIndexes (R.content rows.old) (handle_of asked.now.request.now) (sight (R.content rows.old) asked.now.request.now).values) }
+    ensures by_index { OnOk result (HaveTheirIndexes (R.content rows.old) (handle_of asked.now.request.now) (table_view (R.content rows.old) asked.now.request.now).values) }
     ensures count { AreRefusalsAfter result (R.refused rows.old) (R.refused rows.new) }
     ensures cost { ReadsWithin (R.content rows.old) (decision_cost (decisions.Proven (proof_of proof.now)) asked.now.request.now.operation) (R.reads rows.old) (R.reads rows.new) }
 {

@@ -13,8 +13,8 @@ ghost use Rattle.hdl_ops.specs.Admission.{handle_in};
 ghost use Rattle.hdl_ops.specs.Cost.{key_cost};
 ghost use Rattle.hdl_ops.specs.Proven.{admin_octets, target, key_of, MaskOf, IsCodeForKey, IsCodeForProof};
 ghost use Rattle.hdl_ops.specs.Requests.{sent_handle};
-ghost use Rattle.hdl_ops.specs.Sights as sights;
-ghost use Rattle.hdl_ops.specs.Views.{sight_of, proof_of};
+ghost use Rattle.hdl_ops.specs.TableViews as views;
+ghost use Rattle.hdl_ops.specs.Views.{table_view_of, proof_of};
 
 use crate::admit::read_name;
 use crate::decision::{Proof, TableView};
@@ -86,13 +86,13 @@ fn code_for_key<R: Masked>(
     alloc: Global,
     rows: &mut R,
     request: &Request<'_>,
-    sight: &TableView,
+    table_view: &TableView,
     name: &Name,
     proof: &Proof<'_>,
 ) -> Result<ResponseCode, Refused>
     requires named { name.now ≡ sent_handle request.now.operation }
     ensures unchanged { R.content rows.new ≡ R.content rows.old }
-    ensures code { IfOk result (λ code. IsCodeForKey (R.content rows.old) (sight_of sight.now) request.now (proof_of proof.now) (response_number code)) }
+    ensures code { IfOk result (λ code. IsCodeForKey (R.content rows.old) (table_view_of table_view.now) request.now (proof_of proof.now) (response_number code)) }
     ensures count { AreRefusalsAfter result (R.refused rows.old) (R.refused rows.new) }
     ensures cost { ReadsWithin (R.content rows.old) key_cost (R.reads rows.old) (R.reads rows.new) }
 {
@@ -103,7 +103,7 @@ fn code_for_key<R: Masked>(
         return Ok(ResponseCode::NotAuthorized);
     };
     let value = rows.at(&key)?;
-    Ok(code_after_key(request, sight, proof, mask, &value))
+    Ok(code_after_key(request, table_view, proof, mask, &value))
 }
 
 /// The code of the table of decision for a request with a proof.
@@ -111,19 +111,19 @@ pub(crate) fn code_for_proof<R: Masked>(
     alloc: Global,
     rows: &mut R,
     request: &Request<'_>,
-    sight: &TableView,
+    table_view: &TableView,
     name: &Name,
     proof: &Proof<'_>,
 ) -> Result<ResponseCode, Refused>
     requires named { name.now ≡ sent_handle request.now.operation }
-    requires sight { sight_of sight.now ≡ sights.bare (sights.sight (R.content rows.old) request.now) }
+    requires table_view { table_view_of table_view.now ≡ views.bare (views.table_view (R.content rows.old) request.now) }
     ensures unchanged { R.content rows.new ≡ R.content rows.old }
     ensures code { IfOk result (λ code. IsCodeForProof (R.content rows.old) request.now (proof_of proof.now) (response_number code)) }
     ensures count { AreRefusalsAfter result (R.refused rows.old) (R.refused rows.new) }
     ensures cost { ReadsWithin (R.content rows.old) key_cost (R.reads rows.old) (R.reads rows.new) }
 {
-    match code_before_key(request, sight, proof) {
+    match code_before_key(request, table_view, proof) {
         Some(code) => Ok(code),
-        None => code_for_key(alloc, rows, request, sight, name, proof),
+        None => code_for_key(alloc, rows, request, table_view, name, proof),
     }
 }

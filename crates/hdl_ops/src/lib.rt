@@ -25,6 +25,7 @@
 
 mod admit;
 mod anyone;
+mod asked_values;
 mod change;
 mod deciding;
 mod decision;
@@ -36,7 +37,6 @@ mod proven;
 mod rendering;
 mod requests;
 mod seeing;
-mod sights;
 mod whole_decision;
 mod written;
 

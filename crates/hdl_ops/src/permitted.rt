@@ -6,7 +6,7 @@ ghost use Rattle.hdl_value.specs.Permission.{mask_permits};
 ghost use Rattle.hdl_msg.specs.Views.{operation_of, numbers_of, values_of};
 ghost use Rattle.hdl_ops.specs.Proven.{add_needs, remove_needs, modify_needs, is_allowed, is_locked_at, is_locked};
 
-use crate::sights::is_admin_at;
+use crate::asked_values::is_admin_at;
 use hdl_msg::{Body, Numbers, Values};
 use hdl_rows::value_with;
 use hdl_value::{AdminMask, AdminPermission, CutValue, Permission, Value};

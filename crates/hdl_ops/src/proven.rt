@@ -6,13 +6,13 @@ ghost use Rattle.hdl_value.specs.Refs.{is_secret_key};
 ghost use Rattle.hdl_msg.specs.Views.{operation_of, numbers_of, values_of};
 ghost use Rattle.hdl_msg.specs.Codes.{response_number};
 ghost use Rattle.hdl_ops.specs.Proven.{is_right, misses_at, takes_at, misses, takes, overfills, is_asked, code_before_key, code_after_key};
-ghost use Rattle.hdl_ops.specs.Sights.{passes};
-ghost use Rattle.hdl_ops.specs.Views.{sight_of, proof_of};
+ghost use Rattle.hdl_ops.specs.TableViews.{passes};
+ghost use Rattle.hdl_ops.specs.Views.{table_view_of, proof_of};
 
+use crate::asked_values::{asks, is_kept, is_public};
 use crate::decision::{Proof, TableView};
 use crate::permitted::{is_allowed, is_locked};
 use crate::requests::{creates, resolves};
-use crate::sights::{asks, is_kept, is_public};
 use crate::written::count_of_values;
 use hdl_auth::{check, has_response_form};
 use hdl_limits::VALUES_MAX;
@@ -121,10 +121,10 @@ fn any_asked(request: &Request<'_>, values: &[Value]) -> bool
 #[tactic(auto, unfolding(crate::specs::Proven::code_before_key, crate::specs::First::first))]
 pub(crate) fn code_before_key(
     request: &Request<'_>,
-    sight: &TableView,
+    table_view: &TableView,
     proof: &Proof<'_>,
 ) -> Option<ResponseCode>
-    ensures { option_map response_number result ≡ code_before_key (sight_of sight.now) request.now (proof_of proof.now) }
+    ensures { option_map response_number result ≡ code_before_key (table_view_of table_view.now) request.now (proof_of proof.now) }
 {
     let body = request.body();
     if proof.response.kind != HS_SECKEY {
@@ -133,10 +133,10 @@ pub(crate) fn code_before_key(
     if !has_response_form(proof.digest.algorithm(), proof.response.answer) {
         return Some(ResponseCode::InvalidCredential);
     }
-    if creates(body) && sight.there {
+    if creates(body) && table_view.there {
         return Some(ResponseCode::HandleAlreadyExists);
     }
-    if !creates(body) && !sight.there {
+    if !creates(body) && !table_view.there {
         return Some(ResponseCode::HandleNotFound);
     }
     None
@@ -146,15 +146,15 @@ pub(crate) fn code_before_key(
 #[tactic(auto, unfolding(crate::specs::Proven::code_after_key, crate::specs::First::first))]
 pub(crate) fn code_after_key(
     request: &Request<'_>,
-    sight: &TableView,
+    table_view: &TableView,
     proof: &Proof<'_>,
     mask: AdminMask,
     key: &Option<Value>,
 ) -> ResponseCode
-    ensures { response_number result ≡ code_after_key (sight_of sight.now) request.now (proof_of proof.now) mask.0 key.now }
+    ensures { response_number result ≡ code_after_key (table_view_of table_view.now) request.now (proof_of proof.now) mask.0 key.now }
 {
     let body = request.body();
-    let values = &sight.values;
+    let values = &table_view.values;
     if !is_key(key) {
         return ResponseCode::UnableToAuthenticate;
     }

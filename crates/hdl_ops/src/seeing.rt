@@ -11,8 +11,8 @@ ghost use Rattle.hdl_ops.specs.Cost.{cost_of_heads, granted_cost, shown_cost};
 ghost use Rattle.hdl_ops.specs.Decisions.{decision};
 ghost use Rattle.hdl_ops.specs.Requests.{sent_handle, handle_of};
 ghost use Rattle.hdl_ops.specs.Seeing.{one_or_none, IsEnough};
-ghost use Rattle.hdl_ops.specs.Sights.{sight, bare};
-ghost use Rattle.hdl_ops.specs.Views.{level_of, sight_of};
+ghost use Rattle.hdl_ops.specs.TableViews.{table_view, bare};
+ghost use Rattle.hdl_ops.specs.Views.{level_of, table_view_of};
 
 use crate::decision::{Level, TableView};
 use crate::requests::{is_list, resolves};
@@ -37,7 +37,7 @@ pub(crate) fn is_granted(code: ResponseCode) -> bool
 }
 
 /// What is seen before a code is known: whether the handle is there, and the heads of its values.
-#[tactic(auto, unfolding(crate::specs::Sights::sight, crate::specs::Requests::handle_of))]
+#[tactic(auto, unfolding(crate::specs::TableViews::table_view, crate::specs::Requests::handle_of))]
 pub(crate) fn look<R: Rows>(
     alloc: Global,
     rows: &mut R,
@@ -46,10 +46,10 @@ pub(crate) fn look<R: Rows>(
 ) -> Result<TableView, Refused>
     requires named { name.now ≡ sent_handle request.now.operation }
     ensures unchanged { R.content rows.new ≡ R.content rows.old }
-    ensures sight { IfOk result (λ s. sight_of s ≡ bare (sight (R.content rows.old) request.now)) }
-    ensures by_index { OnOk result (HaveTheirIndexes (R.content rows.old) (handle_of request.now) (sight (R.content rows.old) request.now).values) }
+    ensures table_view { IfOk result (λ s. table_view_of s ≡ bare (table_view (R.content rows.old) request.now)) }
+    ensures by_index { OnOk result (HaveTheirIndexes (R.content rows.old) (handle_of request.now) (table_view (R.content rows.old) request.now).values) }
     ensures count { R.refused rows.new ≡ refusals_after result (R.refused rows.old) }
-    ensures cost { R.reads rows.new ≤ R.reads rows.old + cost_of_heads (sight (R.content rows.old) request.now) }
+    ensures cost { R.reads rows.new ≤ R.reads rows.old + cost_of_heads (table_view (R.content rows.old) request.now) }
 {
     let found = rows.heads(name)?;
     let names = Vec::new(alloc);
@@ -115,11 +115,11 @@ pub(crate) fn see<R: Rows>(
     mut seen: TableView,
 ) -> Result<TableView, Refused>
     requires named { place.old.name ≡ sent_handle request.now.operation }
-    requires seen { sight_of seen ≡ bare (sight (R.content rows.old) request.now) }
-    requires by_index { HaveTheirIndexes (R.content rows.old) (handle_of request.now) (sight (R.content rows.old) request.now).values }
+    requires seen { table_view_of seen ≡ bare (table_view (R.content rows.old) request.now) }
+    requires by_index { HaveTheirIndexes (R.content rows.old) (handle_of request.now) (table_view (R.content rows.old) request.now).values }
     ensures unchanged { R.content rows.new ≡ R.content rows.old }
     ensures name { place.new.name ≡ place.old.name }
-    ensures decision { IfOk result (λ s. (a : Algorithm) → decision a (sight_of s) request.now (level_of level.now) (response_number Success) ≡ decision a (sight (R.content rows.old) request.now) request.now (level_of level.now) (response_number Success)) }
+    ensures decision { IfOk result (λ s. (a : Algorithm) → decision a (table_view_of s) request.now (level_of level.now) (response_number Success) ≡ decision a (table_view (R.content rows.old) request.now) request.now (level_of level.now) (response_number Success)) }
     ensures count { AreRefusalsAfter result (R.refused rows.old) (R.refused rows.new) }
     ensures cost { ReadsWithin (R.content rows.old) (granted_cost request.now.operation) (R.reads rows.old) (R.reads rows.new) }
 {

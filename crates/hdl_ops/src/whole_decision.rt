@@ -8,13 +8,13 @@ ghost use Rattle.hdl_ops.specs.Decisions as decisions;
 ghost use Rattle.hdl_ops.specs.Decisions.{may_read, carried_content, change_of};
 ghost use Rattle.hdl_ops.specs.Replies.{fits};
 ghost use Rattle.hdl_ops.specs.Requests.{sent_handle, resolves, stored_operation};
-ghost use Rattle.hdl_ops.specs.Sights.{asks};
-ghost use Rattle.hdl_ops.specs.Views.{decision_of, level_of, sight_of};
+ghost use Rattle.hdl_ops.specs.TableViews.{asks};
+ghost use Rattle.hdl_ops.specs.Views.{decision_of, level_of, table_view_of};
 
+use crate::asked_values::{asks, is_kept, is_public};
 use crate::change::Change;
 use crate::decision::{Decision, HashedRequest, Level, TableView};
 use crate::rendering::fitting;
-use crate::sights::{asks, is_kept, is_public};
 use crate::written::{copied_indexes, stored_values};
 use hdl_limits::{Items, Octets};
 use hdl_msg::{Body, ReplyContent, Request, ResponseCode, Values};
@@ -47,16 +47,16 @@ pub(crate) fn readable_values(
 fn carried_content(
     request: &Request<'_>,
     level: &Level<'_>,
-    sight: TableView,
+    table_view: TableView,
     name: Name,
 ) -> (ReplyContent, Option<Name>)
     requires named { name ≡ sent_handle request.now.operation }
-    ensures content { result.0 ≡ carried_content (sight_of sight) request.now (level_of level.now) }
+    ensures content { result.0 ≡ carried_content (table_view_of table_view) request.now (level_of level.now) }
     ensures left { result.1 ≡ (if resolves request.now.operation then None else Some (sent_handle request.now.operation)) }
 {
     match request.body() {
         Body::Resolution { .. } => {
-            let values = Items::new(readable_values(request.body(), level, sight.values));
+            let values = Items::new(readable_values(request.body(), level, table_view.values));
             let handle = Octets::new(name.into_sent());
             let wire = request.wire();
             (
@@ -69,7 +69,7 @@ fn carried_content(
             )
         }
         Body::List { .. } => {
-            let handles = Items::new(sight.names);
+            let handles = Items::new(table_view.names);
             (ReplyContent::Handles { handles }, Some(name))
         }
         Body::Create { .. } => (ReplyContent::Nothing, Some(name)),
@@ -165,18 +165,18 @@ pub(crate) fn whole_decision(
     alloc: Global,
     asked: &HashedRequest<'_>,
     level: &Level<'_>,
-    sight: TableView,
+    table_view: TableView,
     code: ResponseCode,
     name: Name,
 ) -> Result<Decision, Refused>
     requires named { name ≡ sent_handle asked.now.request.now.operation }
     ensures carried { IfOk result (λ d. IsTrue (fits asked.now.algorithm asked.now.request.now d.content)) }
-    ensures decided { IfOk result (λ d. decision_of d ≡ decisions.decision asked.now.algorithm (sight_of sight) asked.now.request.now (level_of level.now) (response_number code)) }
+    ensures decided { IfOk result (λ d. decision_of d ≡ decisions.decision asked.now.algorithm (table_view_of table_view) asked.now.request.now (level_of level.now) (response_number code)) }
 {
     if code != ResponseCode::Success {
         return Ok(failure(code));
     }
-    let (content, name) = carried_content(asked.request, level, sight, name);
+    let (content, name) = carried_content(asked.request, level, table_view, name);
     let Some(content) = fitting(asked, content) else {
         return Ok(failure(ResponseCode::Error));
     };

@@ -9,7 +9,7 @@ ghost use Rattle.hdl_msg.specs.Views.{operation_of, numbers_of, values_of};
 ghost use Rattle.hdl_ops.specs.Admission.{has_twins, is_bad_list, are_bad, is_bad_write};
 ghost use Rattle.hdl_ops.specs.Requests.{stored_operation};
 
-use crate::sights::lists_index;
+use crate::asked_values::lists_index;
 use hdl_limits::WRITTEN_MAX;
 use hdl_msg::{Body, Numbers, Request, Values};
 use hdl_value::{Value, Wire};

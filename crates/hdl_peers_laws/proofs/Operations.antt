@@ -13,7 +13,7 @@ use Rattle.hdl_msg.specs.Message.{Content, SpellsRequest, Operation, code_of, re
 use Rattle.hdl_ops.specs.First.{or_code}
 use Rattle.hdl_ops.specs.Admission.{refusal}
 use Rattle.hdl_ops.specs.Requests.{response_of}
-use Rattle.hdl_ops.specs.Sights.{TableView, sight}
+use Rattle.hdl_ops.specs.TableViews.{TableView, table_view}
 use Rattle.hdl_ops.specs.Proven.{Proof, key_of, value_at, code_before_key, code_after_key, code_for_key, IsCodeBy}
 use Rattle.hdl_ops.specs.Replies.{fits}
 use Rattle.hdl_ops.specs.Decisions.{Level, Proven, Decision, Decides, DecidesBy, decision, refusal_decision, success, failure, carried_content}
@@ -65,7 +65,7 @@ key_code s r p (Some m) k = codes_pass no_fault _ 1 refl refl
 
 proof_code : (t : Table) (r : Content) (p : Proof) (early : Option ℕ) (c : ℕ) → IsTrue (no_fault (or_code early 0)) → IsCodeBy t r p early c → IsTrue (no_fault c)
 proof_code t r p (Some e) c f is = ap no_fault is ∙ f
-proof_code t r p None c f is = ap no_fault is.2 ∙ key_code (sight t r) r p is.0 (value_at t (key_of p))
+proof_code t r p None c f is = ap no_fault is.2 ∙ key_code (table_view t r) r p is.0 (value_at t (key_of p))
 
 refusal_code : (hosts : List ℕ → Bool) (r : Content) → IsTrue (no_fault (or_code (refusal hosts r) 0))
 unfolding refusal
@@ -85,7 +85,7 @@ module _ (hosts : List ℕ → Bool) (a : Algorithm) (t : Table) (r : Content) (
   unfolding refusal_decision
   code_by (Some c) e is = ap (λ (x : Decision). no_fault x.code) is ∙ ap (λ (o : Option ℕ). no_fault (or_code o 0)) (sym e) ∙ refusal_code hosts r
   code_by None e is =
-      ap (λ (x : Decision). no_fault x.code) is.2 ∙ decision_code a (sight t r) r (Proven p) is.0 (proof_code t r p (code_before_key (sight t r) r p) is.0 (before_code (sight t r) r p) is.1)
+      ap (λ (x : Decision). no_fault x.code) is.2 ∙ decision_code a (table_view t r) r (Proven p) is.0 (proof_code t r p (code_before_key (table_view t r) r p) is.0 (before_code (table_view t r) r p) is.1)
 
   -- what is decided with a proof isn't out of the grammar
   pub proven_no_fault : Decides hosts a t r (Proven p) d → eqb d.code 4 ≡ false

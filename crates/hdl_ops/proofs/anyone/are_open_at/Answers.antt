@@ -3,7 +3,7 @@ use Rattle.std.proofs.lemmas.Iterator.Search.{all_from_yields_List}
 use Rattle.std.proofs.lemmas.Iterator.Consumers.{YieldsList-from_first}
 use Rattle.hdl_msg.specs.Views.{numbers_of}
 use Rattle.hdl_ops.specs.Anyone.{is_open}
-use Rattle.hdl_ops.specs.Sights.{passes_at}
+use Rattle.hdl_ops.specs.TableViews.{passes_at}
 use Rattle.hdl_ops.proofs.anyone.are_open_at.Goals as goal
 
 pub returns : goal.returns

@@ -4,7 +4,7 @@ use Rattle.std.proofs.lemmas.Iterator.Consumers.{YieldsList-from_first}
 use Rattle.hdl_msg.specs.Views.{values_of}
 use Rattle.hdl_value.specs.Refs.{is_admin}
 use Rattle.hdl_ops.specs.Anyone.{is_open}
-use Rattle.hdl_ops.specs.Sights.{passes_at}
+use Rattle.hdl_ops.specs.TableViews.{passes_at}
 use Rattle.hdl_ops.proofs.anyone.are_open_for.Goals as goal
 
 pub returns : goal.returns

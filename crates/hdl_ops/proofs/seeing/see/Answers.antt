@@ -5,8 +5,8 @@ use Rattle.hdl_rows.specs.Table.{names_of}
 use Rattle.hdl_rows.proofs.Changes.{if_ok_then}
 use Rattle.hdl_ops.specs.Decisions.{may_read}
 use Rattle.hdl_ops.specs.Requests.{resolves, is_list}
-use Rattle.hdl_ops.specs.Sights.{asks}
-use Rattle.hdl_ops.specs.Views.{level_of, sight_of}
+use Rattle.hdl_ops.specs.TableViews.{asks}
+use Rattle.hdl_ops.specs.Views.{level_of, table_view_of}
 use Rattle.hdl_ops.proofs.Costs.{names_read, lists_granted}
 use Rattle.hdl_ops.proofs.Shown.{see_resolution, see_list, see_write}
 use Rattle.hdl_ops.proofs.seeing.see.Goals as goal
@@ -15,8 +15,8 @@ pub returns-then-resolves-clause-decision : goal.returns-then-resolves-clause-de
 returns-then-resolves-clause-decision g c = λ a.
     let r = c.args.request.now in
     let e : resolves r.operation ≡ true = sym (ap resolves c.body.ensures) ∙ sym c.resolves.ensures ∙ c.if-resolves.true in
-    see_resolution a (g.R.Rows.content c.args.rows.now) r (level_of c.args.level.now) (sight_of c.args.seen) _ c.args.place.now.name c.deref.result.now c.requires.seen c.requires.named e c.requires.by_index
-    (c.deref.ensures.value ∙ c.readable_values-heads.ensures ∙ ap (λ o. filter (λ v. asks o v && may_read (level_of c.args.level.now) v) (sight_of c.args.seen).values) c.body-then-resolves.ensures)
+    see_resolution a (g.R.Rows.content c.args.rows.now) r (level_of c.args.level.now) (table_view_of c.args.seen) _ c.args.place.now.name c.deref.result.now c.requires.seen c.requires.named e c.requires.by_index
+    (c.deref.ensures.value ∙ c.readable_values-heads.ensures ∙ ap (λ o. filter (λ v. asks o v && may_read (level_of c.args.level.now) v) (table_view_of c.args.seen).values) c.body-then-resolves.ensures)
     c.in_ok-values.ensures.enough
 
 pub returns-then-is_list-clause-decision : goal.returns-then-is_list-clause-decision

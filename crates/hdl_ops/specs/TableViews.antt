@@ -13,8 +13,8 @@ pub record TableView : Type 0 where
   pub values : List Value  -- its values, by rising index
   pub names : List (List ℕ)  -- for a list, the handles of the naming authority, rising by octets
 
-unfoldable pub sight : Table → Content → TableView
-sight t r = record {
+unfoldable pub table_view : Table → Content → TableView
+table_view t r = record {
   there = has t (handle_of r);
   values = values_of t (handle_of r);
   names = if is_list r.operation then names_of t (prefix (sent_handle r.operation)) else [];

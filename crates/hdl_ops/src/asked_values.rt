@@ -5,14 +5,14 @@ ghost use Rattle.std.specs.List.{list_any};
 ghost use Rattle.hdl_value.specs.Permission.{is_public, is_kept};
 ghost use Rattle.hdl_value.specs.Refs.{is_admin};
 ghost use Rattle.hdl_msg.specs.Views.{operation_of, numbers_of, strings_of};
-ghost use Rattle.hdl_ops.specs.Sights.{matches, is_named, asks, passes_at};
+ghost use Rattle.hdl_ops.specs.TableViews.{matches, is_named, asks, passes_at};
 
 use hdl_msg::{Body, Numbers, Strings};
 use hdl_rows::value_with;
 use hdl_value::{Class, Value};
 
 /// A listed type matches the type of a value.
-#[tactic(auto, unfolding(crate::specs::Sights::matches))]
+#[tactic(auto, unfolding(crate::specs::TableViews::matches))]
 fn matches(listed: &[u8], kind: &[u8]) -> bool
     ensures { result ≡ matches listed.now kind.now }
 {
@@ -43,7 +43,7 @@ fn has_no_type(mut types: Strings<'_>) -> bool
     types.next().is_none()
 }
 
-#[tactic(auto, unfolding(crate::specs::Sights::is_named))]
+#[tactic(auto, unfolding(crate::specs::TableViews::is_named))]
 fn is_named(indexes: Numbers<'_>, types: Strings<'_>, value: &Value) -> bool
     ensures { result ≡ is_named (numbers_of indexes.entry) (strings_of types.entry) value.now }
 {
