@@ -3,6 +3,7 @@
 use hdl_core::Tenants;
 use hdl_host::{Amount, Bound};
 use hdl_name::Name;
+use hdl_programs::ExitStatus;
 use hdl_server_options::BoundOption;
 use hdl_tables::{has_publisher, publisher_names};
 use std::alloc::{AllocError, AllocFailed, Global};
@@ -59,12 +60,12 @@ impl<T: Drop> From<AllocFailed<T>> for BoundFault {
 }
 
 impl BoundFault {
-    /// The exit status: 2 for the words, 3 for the text.
-    pub fn status(&self) -> u8 {
+    /// How the run ends.
+    pub fn status(&self) -> ExitStatus {
         match self {
-            BoundFault::Memory => 1,
-            BoundFault::Unknown(_, _) => 2,
-            BoundFault::Beyond { .. } => 3,
+            BoundFault::Memory => ExitStatus::Failure,
+            BoundFault::Unknown(_, _) => ExitStatus::Arguments,
+            BoundFault::Beyond { .. } => ExitStatus::Tenants,
         }
     }
 }

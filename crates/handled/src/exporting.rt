@@ -2,11 +2,10 @@
 
 use crate::fault::ProgramFault;
 use crate::over_unserved;
-use crate::plan::UNSERVABLE;
 use crate::ports::report_empty;
 use crate::sharing::export_cluster;
 use crate::texts::text_of;
-use hdl_programs::{tenants_of, usage_status};
+use hdl_programs::{ExitStatus, tenants_of};
 use hdl_server_options::{ExportOptions, ExportSource, TableFile};
 use hdl_tables::{Export, ExportText, check_new_path, check_publisher, is_new, missing_fault};
 use std::net::{Net, TcpStream};
@@ -20,17 +19,17 @@ fn export_file<R: Threads + Drop>(
     rt: &HostRuntime,
     file: &TableFile,
     text: ExportText<'_>,
-) -> Result<u8, ProgramFault> {
+) -> Result<ExitStatus, ProgramFault> {
     let path = file.path.as_str();
     if is_new(rt, path) {
         return Err(ProgramFault::from(missing_fault(rt, path)));
     }
     if report_empty(rt, text.text) {
-        return Ok(UNSERVABLE);
+        return Ok(ExitStatus::Tenants);
     }
     let tenants = tenants_of(rt.alloc(), text.text)?;
     if !check_publisher(rt, &tenants, text.publisher) {
-        return Ok(usage_status(false));
+        return Ok(ExitStatus::Arguments);
     }
     Ok(over_unserved(machine, rt, file, Export { tenants, text })?)
 }
@@ -38,7 +37,7 @@ fn export_file<R: Threads + Drop>(
 /// Writes a table as a tenants text, or the part of the publisher of this name, with the publishers and prefixes of the text that is given. Answers the exit status.
 pub fn export_table<
     R: Net<Stream = TcpStream> + Threads + Clock + RandomSource + Eprint + Copy + Drop,
->(machine: &R, rt: &HostRuntime, options: ExportOptions) -> Result<u8, ProgramFault> {
+>(machine: &R, rt: &HostRuntime, options: ExportOptions) -> Result<ExitStatus, ProgramFault> {
     let ExportOptions {
         source,
         text,

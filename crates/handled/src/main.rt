@@ -28,7 +28,7 @@ use exporting::export_table;
 use fault::ProgramFault;
 use hdl_cachedrows::LIMIT_DEFAULT;
 use hdl_host::{Health, ServerConfig};
-use hdl_programs::{Fault, usage_status};
+use hdl_programs::{ExitStatus, Fault};
 use hdl_server_options::{
     BoundOption, ClusterOptions, Invocation, ServeOptions, TableFile, read_options,
 };
@@ -50,7 +50,7 @@ use std::thread::{self, Threads};
 use texts::{read_text, report_reading, text_of};
 
 /// Runs the script on standard input over a table in memory, and answers the exit status.
-fn replay_memory<R: Threads + Drop>(rt: &HostRuntime) -> Result<u8, ProgramFault> {
+fn replay_memory<R: Threads + Drop>(rt: &HostRuntime) -> Result<ExitStatus, ProgramFault> {
     report_reading(rt);
     let rows = empty_table::<R, TableNotices>(rt, 0)?;
     Ok(replay_input(rt, rows)?)
@@ -69,7 +69,7 @@ fn serve_file<
         + Drop
         + 'static,
     P: Plan,
->(machine: &R, rt: &HostRuntime, file: &TableFile, plan: P) -> Result<u8, ProgramFault> {
+>(machine: &R, rt: &HostRuntime, file: &TableFile, plan: P) -> Result<ExitStatus, ProgramFault> {
     let table = open_plan_table(machine, rt, file, &plan)?;
     serve_table(machine, rt, table, plan, file.path.as_str())
 }
@@ -110,7 +110,7 @@ fn serve_plan<
         + Drop
         + 'static,
     P: Plan,
->(machine: &R, rt: &HostRuntime, plan: P, kept: TableLocation) -> Result<u8, ProgramFault> {
+>(machine: &R, rt: &HostRuntime, plan: P, kept: TableLocation) -> Result<ExitStatus, ProgramFault> {
     match kept {
         TableLocation::Memory { row_cache } => {
             let rows = empty_table::<R, TableNotices>(rt, row_cache)?;
@@ -144,7 +144,7 @@ fn serve<
         + Send
         + Drop
         + 'static,
->(machine: &R, rt: &HostRuntime, options: ServeOptions) -> Result<u8, ProgramFault> {
+>(machine: &R, rt: &HostRuntime, options: ServeOptions) -> Result<ExitStatus, ProgramFault> {
     let ServeOptions {
         text,
         addresses,
@@ -175,7 +175,7 @@ fn over_unserved<R: Threads + Drop, W: FileWork>(
     rt: &HostRuntime,
     file: &TableFile,
     work: W,
-) -> Result<u8, TableRunFault> {
+) -> Result<ExitStatus, TableRunFault> {
     let health = health_of(rt)?;
     let notices = TableNotices::new(rt, Arc::try_clone(&health).map_err(Fault::from)?);
     let done = run_over_file(machine, rt, table_path(file), notices, work);
@@ -188,7 +188,7 @@ fn replay_file<R: Threads + Drop>(
     machine: R,
     rt: &HostRuntime,
     file: &TableFile,
-) -> Result<u8, ProgramFault> {
+) -> Result<ExitStatus, ProgramFault> {
     let text = read_text(rt)?;
     let script = ReadScript::of_text(rt, text.as_str())?;
     Ok(over_unserved(machine, rt, file, script)?)
@@ -199,30 +199,30 @@ fn check_input(
     rt: &HostRuntime,
     path: Option<String>,
     addresses: &[IpAddr],
-) -> Result<u8, ProgramFault> {
+) -> Result<ExitStatus, ProgramFault> {
     let text = text_of(rt, path)?;
     match check_text(rt, text.as_str())? {
-        0 => Ok(check_ports(rt, text.as_str(), addresses)?),
+        ExitStatus::Success => Ok(check_ports(rt, text.as_str(), addresses)?),
         status => Ok(status),
     }
 }
 
 /// Copies the table's file, and answers the exit status.
-fn copy_file(rt: &HostRuntime, from: &str, to: &str) -> Result<u8, ProgramFault> {
+fn copy_file(rt: &HostRuntime, from: &str, to: &str) -> Result<ExitStatus, ProgramFault> {
     copy_table(rt, from, to)?;
-    Ok(0)
+    Ok(ExitStatus::Success)
 }
 
 /// Puts a copy in the place of the table's file, and answers the exit status.
-fn restore_file(rt: &HostRuntime, from: &str, table: &str) -> Result<u8, ProgramFault> {
+fn restore_file(rt: &HostRuntime, from: &str, table: &str) -> Result<ExitStatus, ProgramFault> {
     if is_one_file(rt, from, table) {
         let _ = eprintln!(rt;
             "restore: --from and --table name one file: name the copy, and the table's file"
         );
-        return Ok(usage_status(false));
+        return Ok(ExitStatus::Arguments);
     }
     restore_table(rt, from, table)?;
-    Ok(0)
+    Ok(ExitStatus::Success)
 }
 
 /// Whether a thread can be started.
@@ -268,9 +268,9 @@ fn serve_checked<
         + Send
         + Drop
         + 'static,
->(machine: &R, rt: &HostRuntime, options: ServeOptions) -> Result<u8, ProgramFault> {
+>(machine: &R, rt: &HostRuntime, options: ServeOptions) -> Result<ExitStatus, ProgramFault> {
     if report_log_conflict(rt, &options) {
-        return Ok(usage_status(false));
+        return Ok(ExitStatus::Arguments);
     }
     serve(machine, rt, options)
 }
@@ -287,7 +287,7 @@ fn run<
         + Send
         + Drop
         + 'static,
->(machine: &R, rt: &HostRuntime) -> Result<u8, ProgramFault> {
+>(machine: &R, rt: &HostRuntime) -> Result<ExitStatus, ProgramFault> {
     match read_options(rt)? {
         Invocation::Ended(status) => Ok(status),
         Invocation::Check { text, addresses } => {

@@ -1,7 +1,7 @@
 //! What a server tells of itself, and the words that a running one takes.
 
 use hdl_host::{Log, Monitoring, REOPEN, STOP};
-use hdl_programs::Fault;
+use hdl_programs::{ExitStatus, Fault};
 use hdl_server_options::ServeOptions;
 use std::fs;
 use std::io::{self, ErrorKind, Read, Write};
@@ -105,9 +105,9 @@ fn report_no_server(rt: &HostRuntime, word: &str, control: &str, error: io::Erro
 }
 
 /// Ends the server that takes the word at this socket, and answers the exit status.
-pub fn stop(rt: &HostRuntime, control: &str) -> u8 {
+pub fn stop(rt: &HostRuntime, control: &str) -> ExitStatus {
     match send_command(rt, control, STOP) {
-        Ok(_) => 0,
+        Ok(_) => ExitStatus::Success,
         Err(e) => {
             report_no_server(rt, "stop", control, e);
             Fault::Device.status()
@@ -116,9 +116,9 @@ pub fn stop(rt: &HostRuntime, control: &str) -> u8 {
 }
 
 /// Has the server that takes the word at this socket open its log anew, and answers the exit status.
-pub fn reopen(rt: &HostRuntime, control: &str) -> u8 {
+pub fn reopen(rt: &HostRuntime, control: &str) -> ExitStatus {
     match send_command(rt, control, REOPEN) {
-        Ok(0) => return 0,
+        Ok(0) => return ExitStatus::Success,
         Ok(_) => {
             let _ = eprintln!(rt;
                 "reopen: the server at {control} writes its log into no file: start it with --log FILE"

@@ -5,13 +5,10 @@ use crate::monitoring::open_log;
 use crate::ports::report_unservable;
 use hdl_core::Tenants;
 use hdl_host::{Health, Limits, Monitoring, ServerConfig, statuses_of};
-use hdl_programs::{Fault, tenants_of};
+use hdl_programs::{ExitStatus, Fault, tenants_of};
 use hdl_server_options::{BoundOption, LimitOptions, MonitoringOptions};
 use std::net::IpAddr;
 use std::sync::Arc;
-
-/// The exit status if no server can start with the text's publishers, as of a faulty text.
-pub const UNSERVABLE: u8 = 3;
 
 /// Which tenants are served, and in which setting.
 ///
@@ -51,7 +48,7 @@ impl Plan for TextPlan {
 pub enum PlanResult {
     Plan(TextPlan),
     /// A word is no bound of the text, which was said: the exit status.
-    Refused(u8),
+    Refused(ExitStatus),
 }
 
 /// How long is served, and how long clients are waited for.
@@ -117,7 +114,7 @@ pub fn plan_of(
     let mut config = config;
     let tenants = tenants_of(rt.alloc(), text)?;
     if report_unservable(rt, text, &tenants) {
-        return Ok(PlanResult::Refused(UNSERVABLE));
+        return Ok(PlanResult::Refused(ExitStatus::Tenants));
     }
     match bounds_of(rt.alloc(), words, text, &tenants) {
         Ok(bounds) => {

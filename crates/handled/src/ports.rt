@@ -2,6 +2,7 @@
 
 use hdl_core::Tenants;
 use hdl_host::HostFault;
+use hdl_programs::ExitStatus;
 use std::alloc::{AllocError, Global};
 use std::fs;
 use std::io::{self, ErrorKind};
@@ -162,8 +163,8 @@ fn report_unavailable_at(
     alloc: Global,
     tenants: &Tenants,
     address: IpAddr,
-) -> Result<u8, AllocError> {
-    let mut status = 0;
+) -> Result<ExitStatus, AllocError> {
+    let mut status = ExitStatus::Success;
     for place in 0..tenants.publishers() {
         let Some((name, _, port)) = tenants.publisher(place) else {
             break;
@@ -185,17 +186,20 @@ fn report_unavailable_at(
     Ok(status)
 }
 
-/// Says on standard error which ports of the publishers can't be had at these addresses now, once of an address at which none can. Answers the exit status: 0 if
+/// Says on standard error which ports of the publishers can't be had at these addresses now, once of an address at which none can. Answers the exit status: success if
 /// each can be had once it isn't taken, or else that of a start.
 pub fn report_unavailable(
     rt: &HostRuntime,
     alloc: Global,
     tenants: &Tenants,
     addresses: &[IpAddr],
-) -> Result<u8, AllocError> {
-    let mut status = 0;
+) -> Result<ExitStatus, AllocError> {
+    let mut status = ExitStatus::Success;
     for address in addresses {
-        status = report_unavailable_at(rt, alloc, tenants, *address)?.max(status);
+        match report_unavailable_at(rt, alloc, tenants, *address)? {
+            ExitStatus::Success => {}
+            unavailable => status = unavailable,
+        }
     }
     Ok(status)
 }

@@ -7,7 +7,7 @@ use hdl_boundedrows::BoundedRows;
 use hdl_core::{Owing, Tenants};
 use hdl_events::Event;
 use hdl_host::Notices;
-use hdl_programs::{Fault, put_all, tenants_of};
+use hdl_programs::{ExitStatus, Fault, put_all, tenants_of};
 use hdl_replay::{events_of, lines_of_resumed, parts_of, replay};
 use hdl_tables::{Closing, FileWork, LogNote, TableRunFault};
 use std::sync::Arc;
@@ -27,8 +27,8 @@ fn without_bounds<T: Owing + Drop>(
     }
 }
 
-/// Runs the script on standard input over an empty table, and answers the exit status.
-pub fn replay_input<T: Owing + Drop>(rt: &HostRuntime, rows: T) -> Result<u8, Fault>
+/// Runs the script on standard input over an empty table, and answers the number of the exit status.
+fn replay_script<T: Owing + Drop>(rt: &HostRuntime, rows: T) -> Result<u8, Fault>
     requires empty { T.content rows ≡ no_rows }
 {
     let rows = without_bounds(rt, rows)?;
@@ -36,6 +36,24 @@ pub fn replay_input<T: Owing + Drop>(rt: &HostRuntime, rows: T) -> Result<u8, Fa
     let mut output = rt.stdout();
     let mut faults = rt.stderr();
     Ok(replay(rt.alloc(), rows, &mut input, &mut output, &mut faults))
+}
+
+/// The exit status of a replay that has this number.
+fn status_of(number: u8) -> ExitStatus {
+    if number == ExitStatus::Success.number() {
+        ExitStatus::Success
+    } else if number == ExitStatus::Tenants.number() {
+        ExitStatus::Tenants
+    } else {
+        ExitStatus::Failure
+    }
+}
+
+/// Runs the script on standard input over an empty table, and answers the exit status.
+pub fn replay_input<T: Owing + Drop>(rt: &HostRuntime, rows: T) -> Result<ExitStatus, Fault>
+    requires empty { T.content rows ≡ no_rows }
+{
+    Ok(status_of(replay_script(rt, rows)?))
 }
 
 /// A script that was read.
@@ -66,12 +84,12 @@ impl FileWork for ReadScript {
         self,
         rt: &HostRuntime,
         table: T,
-    ) -> Result<u8, TableRunFault> {
+    ) -> Result<ExitStatus, TableRunFault> {
         let ReadScript { tenants, events } = self;
         let rows = without_bounds(rt, table)?;
         let (lines, rows) = lines_of_resumed(rt.alloc(), rows, tenants, events)?;
         put_all(&mut rt.stdout(), lines.as_bytes())?;
         rows.into_rows().close(rt, LogNote::Kept)?;
-        Ok(0)
+        Ok(ExitStatus::Success)
     }
 }

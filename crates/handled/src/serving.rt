@@ -11,7 +11,7 @@ use crate::plan::Plan;
 use hdl_core::Owing;
 use hdl_guardedrows::GuardedRows;
 use hdl_host::{FileWatch, Health, ServerConfig, ShutdownFlag, host_resumed, host_tenants};
-use hdl_programs::Fault;
+use hdl_programs::{ExitStatus, Fault};
 use hdl_tables::{Closing, LogNote, TableRunFault};
 use std::fs::Files;
 use std::net::{Net, TcpListener, TcpStream};
@@ -71,7 +71,13 @@ pub fn serve_memory<
         + 'static,
     T: Owing + Drop,
     P: Plan,
->(machine: &R, rt: &HostRuntime, rows: T, plan: P, row_cache: usize) -> Result<u8, ProgramFault>
+>(
+    machine: &R,
+    rt: &HostRuntime,
+    rows: T,
+    plan: P,
+    row_cache: usize,
+) -> Result<ExitStatus, ProgramFault>
     requires empty { T.content rows ≡ no_rows }
 {
     let limits = plan.config().limits;
@@ -87,7 +93,7 @@ pub fn serve_memory<
     let rows = GuardedRows::new(rows, guard);
     host_tenants(machine, rt.alloc(), rows, tenants, config, &mut output)?;
     report_end(rt, &health, shutdown.is_requested());
-    Ok(0)
+    Ok(ExitStatus::Success)
 }
 
 /// Serves by this plan over the table in the file at this path, and closes it. Answers the exit status.
@@ -104,7 +110,13 @@ pub fn serve_table<
         + 'static,
     T: Owing + Closing + Drop,
     P: Plan,
->(machine: &R, rt: &HostRuntime, table: T, plan: P, path: &str) -> Result<u8, ProgramFault> {
+>(
+    machine: &R,
+    rt: &HostRuntime,
+    table: T,
+    plan: P,
+    path: &str,
+) -> Result<ExitStatus, ProgramFault> {
     let limits = plan.config().limits;
     report_descriptors(rt, plan.tenants(), limits);
     let kept = TableDescription::File {
@@ -123,5 +135,5 @@ pub fn serve_table<
     let rows = host_resumed(machine, rt.alloc(), rows, tenants, config, &mut output)?;
     close_guarded(rt, rows)?;
     report_end(rt, &health, shutdown.is_requested());
-    Ok(0)
+    Ok(ExitStatus::Success)
 }

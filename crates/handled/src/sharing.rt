@@ -5,14 +5,14 @@ use crate::fault::ProgramFault;
 use crate::guarding::TableGuard;
 use crate::health_of as new_health;
 use crate::notices::{TableDescription, TableNotices, report_end, startup_line_of};
-use crate::plan::{Plan, UNSERVABLE};
+use crate::plan::Plan;
 use crate::ports::report_empty;
 use crate::serving::{health_of, shutdown_of};
 use hdl_cluster::{ClusterParts, ClusterStatus, SharedRows, prepare};
 use hdl_core::Tenants;
 use hdl_guardedrows::GuardedRows;
 use hdl_host::{Sharing, host_shared, read_shared};
-use hdl_programs::{Fault, tenants_of, usage_status};
+use hdl_programs::{ExitStatus, Fault, tenants_of};
 use hdl_server_options::ClusterOptions;
 use hdl_tables::{ExportText, check_publisher};
 use std::alloc::AllocError;
@@ -22,12 +22,6 @@ use std::random::RandomSource;
 use std::rt::Clock;
 use std::sync::Arc;
 use std::thread::Threads;
-
-/// The exit status of a server that has parted from the others: a service file starts it anew.
-const DIVERGED: u8 = 6;
-
-/// The exit status of an export, if there is no table.
-const NO_TABLE: u8 = 4;
 
 /// What a server has beside others, by these options.
 fn cluster_parts<R: Net<Stream = TcpStream> + Clock + Eprint + RandomSource + Copy + Drop>(
@@ -63,7 +57,12 @@ pub fn serve_cluster<
         + Drop
         + 'static,
     P: Plan,
->(machine: &R, rt: &HostRuntime, cluster: ClusterOptions, plan: P) -> Result<u8, ProgramFault> {
+>(
+    machine: &R,
+    rt: &HostRuntime,
+    cluster: ClusterOptions,
+    plan: P,
+) -> Result<ExitStatus, ProgramFault> {
     let limits = plan.config().limits;
     report_descriptors(rt, plan.tenants(), limits);
     let kept = TableDescription::Cluster(cluster.name.as_str());
@@ -97,10 +96,10 @@ pub fn serve_cluster<
     )?;
     if standing.has_diverged() {
         let _ = eprintln!(rt; "cluster: the server has parted from the others: start it anew");
-        return Ok(DIVERGED);
+        return Ok(ExitStatus::Diverged);
     }
     report_end(rt, &health, shutdown.is_requested());
-    Ok(0)
+    Ok(ExitStatus::Success)
 }
 
 /// The table that the servers of a cluster have. None was put there, if it has no changes.
@@ -131,20 +130,20 @@ pub fn export_cluster<R: Net<Stream = TcpStream> + Clock + Eprint + RandomSource
     rt: &HostRuntime,
     cluster: ClusterOptions,
     text: ExportText<'_>,
-) -> Result<u8, ProgramFault> {
+) -> Result<ExitStatus, ProgramFault> {
     if report_empty(rt, text.text) {
-        return Ok(UNSERVABLE);
+        return Ok(ExitStatus::Tenants);
     }
     let tenants = tenants_of(rt.alloc(), text.text)?;
     if !check_publisher(rt, &tenants, text.publisher) {
-        return Ok(usage_status(false));
+        return Ok(ExitStatus::Arguments);
     }
     let (mut rows, changes) = read_cluster(machine, rt, cluster, tenants)?;
     if changes == 0 {
         let _ = eprintln!(rt;
             "cluster: these members have no table of this name: check --cluster and --cluster-name"
         );
-        return Ok(NO_TABLE);
+        return Ok(ExitStatus::Table);
     }
     Ok(text.put(rt, &mut rows)?)
 }

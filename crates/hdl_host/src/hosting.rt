@@ -12,7 +12,7 @@ use hdl_listeners::{
     ActiveMonitoring, HostFault, Limits, MonitoringSockets, PublisherSockets, ServerConfig,
     join_workers, open_monitoring, open_publishers, or_device_fault, remove_socket, start_workers,
 };
-use hdl_programs::{Fault, put_all, tenants_of};
+use hdl_programs::{ExitStatus, Fault, put_all, tenants_of};
 use hdl_rows::PlainRows;
 use hdl_serve::{LaneEnds, LoopClock, WorkerEnd, WorkerSide, lanes_of, serve};
 use hdl_sockets::{CallTimeouts, IdlePoll, MachineClock, OverflowLane, ThreadRole};
@@ -462,10 +462,10 @@ pub fn host<
     let mut limits = Limits::DEFAULT;
     limits.turns = turns;
     match host_text(rt, alloc, PlainRows::new(alloc), tenants, limits, output) {
-        Ok(()) => 0,
+        Ok(()) => ExitStatus::Success.number(),
         Err(fault) => {
             let _ = writeln!(faults, "{fault}");
-            fault.status()
+            fault.status().number()
         }
     }
 }

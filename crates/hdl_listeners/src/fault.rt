@@ -1,7 +1,7 @@
 //! Why a server ends with a fault line.
 
 use hdl_change_list::ListFault;
-use hdl_programs::Fault;
+use hdl_programs::{ExitStatus, Fault};
 use std::alloc::{AllocError, AllocFailed};
 use std::fmt;
 use std::io::ErrorKind;
@@ -20,16 +20,13 @@ pub enum HostFault {
     Cluster(ListFault),
 }
 
-/// The status if a cluster can't be had, or has another layout.
-const NO_CLUSTER: u8 = 7;
-
 impl HostFault {
-    /// The exit status (docs/PROTOCOL.md, "The tenants text and scripts").
-    pub fn status(&self) -> u8 {
+    /// How the server ends.
+    pub fn status(&self) -> ExitStatus {
         match self {
             HostFault::Run(fault) => fault.status(),
             HostFault::Listen(_, _) | HostFault::Control(_) => Fault::Device.status(),
-            HostFault::Cluster(_) => NO_CLUSTER,
+            HostFault::Cluster(_) => ExitStatus::Cluster,
         }
     }
 }

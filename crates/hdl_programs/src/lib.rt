@@ -3,7 +3,7 @@
 //!
 //! A program that has words on its command line reads them with `clap`. Where these leave nothing to do, [`usage_status`] says
 //! with which status it ends (docs/PROTOCOL.md, "The tenants text and scripts"). [`read_input`] reads the whole input, within its limit, and [`tenants_of`]
-//! the tenants text in it; [`put_all`] writes all of an output. Each answers a [`Fault`], which prints as the fault line and knows the exit status.
+//! the tenants text in it; [`put_all`] writes all of an output. Each answers a [`Fault`], which prints as the fault line and knows its [`ExitStatus`].
 //!
 //! It stands on `hdl_tenants`, whose faults are among those of a run, and on neither the service nor `clap`: what serves need not wait for what replays,
 //! and the wrong bodies are tried in seconds, while a program's own check takes minutes.
@@ -17,12 +17,14 @@
 #![tactic(auto)]
 
 mod arguments;
+mod exit_status;
 mod fault;
 mod input;
 mod output;
 mod tenants;
 
-pub use arguments::{arguments_of, usage_status};
+pub use arguments::arguments_of;
+pub use exit_status::{ExitStatus, usage_status};
 pub use fault::Fault;
 pub use input::{INPUT_LIMIT, read_input};
 pub use output::put_all;

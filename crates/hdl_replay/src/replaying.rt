@@ -7,7 +7,7 @@ ghost use Rattle.hdl_rows.specs.Table.{no_rows};
 use crate::script::{events_of, parts_of};
 use hdl_core::{OpenFault, Owing, Service, Tenants};
 use hdl_events::{Event, Outcome};
-use hdl_programs::{Fault, put_all, read_input, tenants_of};
+use hdl_programs::{ExitStatus, Fault, put_all, read_input, tenants_of};
 use std::alloc::Global;
 use std::io::{Read, Write};
 
@@ -163,10 +163,10 @@ pub fn replay<R: Owing + Drop, I: Read, O: Write, F: Write>(
     requires empty { R.content rows ≡ no_rows }
 {
     match try_replay(alloc, rows, input, output) {
-        Ok(()) => 0,
+        Ok(()) => ExitStatus::Success.number(),
         Err(fault) => {
             let _ = writeln!(faults, "{fault}");
-            fault.status()
+            fault.status().number()
         }
     }
 }

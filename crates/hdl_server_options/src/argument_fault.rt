@@ -3,7 +3,7 @@
 use crate::invocation::OptionsFault;
 use clap::Error;
 use clap::error::ErrorKind;
-use hdl_programs::usage_status;
+use hdl_programs::ExitStatus;
 use std::alloc::AllocError;
 
 /// Why the words ask for nothing.
@@ -61,7 +61,11 @@ fn report_input(rt: &HostRuntime, words: &[String], kind: ErrorKind) {
 }
 
 /// Prints what `clap` has to say of these words, and answers the exit status.
-fn print_help(rt: &HostRuntime, words: &[String], error: Error) -> Result<u8, OptionsFault> {
+fn print_help(
+    rt: &HostRuntime,
+    words: &[String],
+    error: Error,
+) -> Result<ExitStatus, OptionsFault> {
     let kind = error.kind();
     if kind == ErrorKind::OutOfMemory {
         return Err(OptionsFault::Memory);
@@ -71,7 +75,7 @@ fn print_help(rt: &HostRuntime, words: &[String], error: Error) -> Result<u8, Op
     report_input(rt, words, kind);
     match printed {
         Err(_) if is_help => Err(OptionsFault::Device),
-        _ => Ok(usage_status(is_help)),
+        _ => Ok(ExitStatus::of_usage(is_help)),
     }
 }
 
@@ -94,11 +98,11 @@ fn listen_reason(word: &str) -> &'static str {
 }
 
 /// Says what is wrong with the value of an option, and answers the exit status.
-fn refuse_value(rt: &HostRuntime, word: &str, option: &str, reason: &str) -> u8 {
+fn refuse_value(rt: &HostRuntime, word: &str, option: &str, reason: &str) -> ExitStatus {
     let _ = eprintln!(rt;
         "error: invalid value '{word}' for '{option}': {reason}\n\nFor more information, try '--help'."
     );
-    usage_status(false)
+    ExitStatus::Arguments
 }
 
 /// Prints why these words ask for nothing, and answers the exit status.
@@ -106,7 +110,7 @@ pub fn print_argument_fault(
     rt: &HostRuntime,
     words: &[String],
     fault: ArgumentFault,
-) -> Result<u8, OptionsFault> {
+) -> Result<ExitStatus, OptionsFault> {
     match fault {
         ArgumentFault::Clap(error) => print_help(rt, words, error),
         ArgumentFault::Address(word) => Ok(refuse_value(

@@ -1,5 +1,6 @@
 //! What a command line asks for.
 
+use hdl_programs::ExitStatus;
 use std::alloc::AllocError;
 use std::net::{IpAddr, SocketAddr};
 
@@ -131,7 +132,7 @@ pub enum Invocation {
         addresses: Vec<IpAddr>,
     },
     /// Nothing: help, the version or a fault was printed, and this is the exit status.
-    Ended(u8),
+    Ended(ExitStatus),
 }
 
 /// Why the command line can't be answered.

@@ -6,7 +6,7 @@ use crate::invocation::{ExportOptions, ExportSource, Invocation, OptionsFault, T
 use crate::serving::{addresses, cluster, serve_options};
 use crate::values::{copy_of, required, table_file};
 use clap::ArgMatches;
-use hdl_programs::{arguments_of, usage_status};
+use hdl_programs::{ExitStatus, arguments_of};
 use std::alloc::Global;
 
 /// What is asked for by the words after `copy`.
@@ -111,7 +111,7 @@ pub fn read_options(rt: &HostRuntime) -> Result<Invocation, OptionsFault> {
         let _ = eprintln!(rt;
             "error: a word of the command line is not UTF-8, or there is no memory for it"
         );
-        return Ok(Invocation::Ended(usage_status(false)));
+        return Ok(Invocation::Ended(ExitStatus::Arguments));
     };
     match parse(rt.alloc(), words.as_slice()) {
         Ok(asked) => Ok(asked),

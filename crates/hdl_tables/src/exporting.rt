@@ -9,7 +9,7 @@ use hdl_export::{
     ExportFault, LeftOut, LeftPrefix, export, export_publisher, left_out, left_out_of,
     left_prefixes,
 };
-use hdl_programs::{Fault, INPUT_LIMIT, put_all};
+use hdl_programs::{ExitStatus, Fault, INPUT_LIMIT, put_all};
 use hdl_rows::{Owing, Rows};
 use hdl_tenants::Tenants;
 use std::alloc::{AllocError, Global};
@@ -18,26 +18,25 @@ use std::fs::{self, File, OpenOptions};
 use std::io::{self, ErrorKind, Write};
 use std::os::unix::fs::OpenOptionsExt;
 
-/// The exit status where the table has handles that the text can't say.
-const INCOMPLETE: u8 = 5;
-
 /// Its owner alone reads what is exported: it has the secrets of all publishers.
 const MODE: u32 = 0o600;
 
-/// The exit status of a fault: 3 for the text that was given, 4 for the table, 1 where memory or the table refused.
-pub fn status_of(fault: &ExportFault) -> u8 {
+/// How a run with this fault ends.
+pub fn status_of(fault: &ExportFault) -> ExitStatus {
     match fault {
-        ExportFault::Given { .. } => 3,
-        ExportFault::Row | ExportFault::Inexpressible | ExportFault::Written { .. } => 4,
+        ExportFault::Given { .. } => ExitStatus::Tenants,
+        ExportFault::Row | ExportFault::Inexpressible | ExportFault::Written { .. } => {
+            ExitStatus::Table
+        }
         ExportFault::Memory => Fault::NoMemory.status(),
         ExportFault::Store => Fault::StoreRefused.status(),
     }
 }
 
 /// Says on standard error how many handles the text doesn't say, and which are the first; answers the exit status.
-fn report_left_out(rt: &HostRuntime, left: &LeftOut) -> u8 {
+fn report_left_out(rt: &HostRuntime, left: &LeftOut) -> ExitStatus {
     if left.empty == 0 && left.inexpressible == 0 {
-        return 0;
+        return ExitStatus::Success;
     }
     let (empty, inexpressible) = (left.empty, left.inexpressible);
     let _ = eprintln!(rt;
@@ -48,7 +47,7 @@ fn report_left_out(rt: &HostRuntime, left: &LeftOut) -> u8 {
             let _ = eprintln!(rt; "export: {name:?}");
         }
     }
-    INCOMPLETE
+    ExitStatus::LeftOut
 }
 
 /// Says on standard error how many handles of which prefixes are left out, since the text lacks these.
@@ -255,7 +254,11 @@ impl ExportText<'_> {
     }
 
     /// Says what no text says, and then writes the text. Answers the exit status.
-    pub fn put<R: Rows>(&self, rt: &HostRuntime, rows: &mut R) -> Result<u8, TableRunFault> {
+    pub fn put<R: Rows>(
+        &self,
+        rt: &HostRuntime,
+        rows: &mut R,
+    ) -> Result<ExitStatus, TableRunFault> {
         let Exported {
             text,
             left,
@@ -280,8 +283,8 @@ pub struct Export<'a> {
 fn close_after<T: Closing + Drop>(
     rt: &HostRuntime,
     table: T,
-    printed: Result<u8, TableRunFault>,
-) -> Result<u8, TableRunFault> {
+    printed: Result<ExitStatus, TableRunFault>,
+) -> Result<ExitStatus, TableRunFault> {
     let status = printed?;
     table.close(rt, LogNote::Kept)?;
     Ok(status)
@@ -296,7 +299,7 @@ impl FileWork for Export<'_> {
         self,
         rt: &HostRuntime,
         table: T,
-    ) -> Result<u8, TableRunFault> {
+    ) -> Result<ExitStatus, TableRunFault> {
         let mut table = table;
         let printed = self.text.put(rt, &mut table);
         close_after(rt, table, printed)

@@ -6,7 +6,7 @@ use crate::reasons::OpenReason;
 use crate::restoring::RestoreFault;
 use hdl_durablerows::TableFault;
 use hdl_export::ExportFault;
-use hdl_programs::Fault;
+use hdl_programs::{ExitStatus, Fault};
 use hdl_wal_check::{PairFault, SummaryFault};
 use std::fmt;
 
@@ -42,8 +42,8 @@ fn advice_for(fault: &TableFault) -> &'static str {
 }
 
 impl TableRunFault {
-    /// The exit status: 4 for the file, and else that of the run.
-    pub fn status(&self) -> u8 {
+    /// How the run ends.
+    pub fn status(&self) -> ExitStatus {
         match self {
             TableRunFault::Run(fault) => fault.status(),
             TableRunFault::Table(TableFault::Memory) => Fault::NoMemory.status(),
@@ -54,7 +54,7 @@ impl TableRunFault {
             | TableRunFault::Pair(_)
             | TableRunFault::Write(_)
             | TableRunFault::Copy(_)
-            | TableRunFault::Restore(_) => 4,
+            | TableRunFault::Restore(_) => ExitStatus::Table,
         }
     }
 }

@@ -5,6 +5,7 @@ use crate::fault::TableRunFault;
 use crate::opening::{TablePath, open_served};
 use hdl_core::Owing;
 use hdl_durablerows::{ShutObserver, TableFault};
+use hdl_programs::ExitStatus;
 use hdl_sqlrows::load::Progress;
 use hdl_tenants::Tenants;
 use std::thread::Threads;
@@ -21,7 +22,7 @@ pub trait FileWork: Drop {
         self,
         rt: &HostRuntime,
         table: T,
-    ) -> Result<u8, TableRunFault>;
+    ) -> Result<ExitStatus, TableRunFault>;
 }
 
 /// What is said where a file is to be read that another process has open: a copy would do.
@@ -39,7 +40,7 @@ pub fn run_over_file<R: Threads + Drop, A: ShutObserver + Progress + Drop, W: Fi
     file: TablePath<'_>,
     observer: A,
     work: W,
-) -> Result<u8, TableRunFault> {
+) -> Result<ExitStatus, TableRunFault> {
     let table = open_served(machine, rt, file, work.tenants(), observer, false).map_err(as_read)?;
     work.run(rt, table)
 }

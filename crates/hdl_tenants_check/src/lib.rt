@@ -13,7 +13,7 @@
 //! match check(rt.alloc(), text)? {
 //!     Report::Accepted(lines) => {
 //!         put_all(&mut rt.stdout(), lines.as_bytes())?;
-//!         Ok(0)
+//!         Ok(ExitStatus::Success)
 //!     }
 //!     Report::Refused(faults) => {
 //!         for fault in &faults {
@@ -21,7 +21,7 @@
 //!             let words = fault.words.as_str();
 //!             let _ = eprintln!(rt; "tenants: line {line}: {words}");
 //!         }
-//!         Ok(FAULTY)
+//!         Ok(ExitStatus::Tenants)
 //!     }
 //! ```
 #![tactic(auto)]

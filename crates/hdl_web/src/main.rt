@@ -36,6 +36,7 @@ mod write_timeout;
 
 use event_loop::listen_at;
 use hdl_copied_handles::{CopiedHandles, read_copy};
+use hdl_programs::ExitStatus;
 use hdl_proxy::{Site, is_site_address};
 use hdl_routes::{Route, read_route};
 use log::Log;
@@ -132,7 +133,7 @@ fn copied(rt: &HostRuntime, words: &ProxyOptions) -> Result<Option<CopiedHandles
         Ok(copied) => Ok(Some(copied)),
         Err(fault) => {
             let _ = eprintln!(rt; "hdl: --lists {path}: {fault}");
-            Err(ExitCode::from(1))
+            Err(ExitCode::from(ExitStatus::Failure))
         }
     }
 }
@@ -255,7 +256,7 @@ fn lines_to(rt: &HostRuntime, words: &ProxyOptions) -> Result<Option<Log>, ExitC
             let _ = eprintln!(rt;
                 "hdl: --log {path}: {fault}: name a file that the proxy's user may write, in a folder that is there"
             );
-            Err(ExitCode::from(1))
+            Err(ExitCode::from(ExitStatus::Failure))
         }
     }
 }
@@ -320,10 +321,10 @@ fn main(rt: HostRuntime) -> ExitCode {
         Invocation::Ended(status) => return ExitCode::from(status),
     };
     if !are_words_fit(&rt, &words) {
-        return ExitCode::from(2);
+        return ExitCode::from(ExitStatus::Arguments);
     }
     let Some(routes) = routes(&rt, &words) else {
-        return ExitCode::from(2);
+        return ExitCode::from(ExitStatus::Arguments);
     };
     let copied = match copied(&rt, &words) {
         Ok(copied) => copied,
@@ -334,7 +335,7 @@ fn main(rt: HostRuntime) -> ExitCode {
         Err(status) => return status,
     };
     let Some(listening) = listening(&rt, &words) else {
-        return ExitCode::from(1);
+        return ExitCode::from(ExitStatus::Failure);
     };
     let served = match start_workers(&rt, &words, routes, copied) {
         Ok(workers_of_all) => serve_http(&rt, listening, workers_of_all, log, &mut rt.stdout()),
@@ -342,7 +343,7 @@ fn main(rt: HostRuntime) -> ExitCode {
     };
     if let Err(fault) = served {
         let _ = eprintln!(rt; "hdl: {fault}");
-        return ExitCode::from(1);
+        return ExitCode::from(ExitStatus::Failure);
     }
     ExitCode::SUCCESS
 }
