@@ -4,12 +4,14 @@ use crate::commands::command;
 use clap::error::ErrorKind;
 use clap::{ArgMatches, Error};
 use hdl_commands::{
-    ExportFormat, ImportOptions, ReplaceOptions, RequestOptions, SiteOptions, operation_in,
+    ExitStatus, ExportFormat, ImportOptions, ReplaceOptions, RequestOptions, SiteOptions,
+    operation_in,
 };
 use hdl_msg::OpCode;
 use hdl_programs::{arguments_of, usage_status};
 use hdl_value::Wire;
 use std::alloc::{AllocError, Global};
+use std::process::ExitCode;
 
 /// The server that is asked where none is named.
 const DEFAULT_SERVER: &str = "127.0.0.1:2641";
@@ -59,8 +61,13 @@ pub enum Invocation {
     AskSite {
         server: String,
     },
-    /// Nothing: help, the version or a fault was printed, and this is the exit status.
-    Ended(u8),
+    /// Nothing: help, the version or a fault was printed, and the program ends so.
+    Ended(ExitCode),
+}
+
+/// Nothing is left to do, and the program ends so.
+fn ended(status: ExitStatus) -> Invocation {
+    Invocation::Ended(ExitCode::from(status))
 }
 
 /// Whether a command reads a text or lines from standard input.
@@ -208,7 +215,7 @@ fn asked_of(alloc: Global, name: &str, matches: &ArgMatches<'_>) -> Result<Invoc
         "site" => site_of(alloc, matches),
         other => match operation_in(other) {
             Some(operation) => Ok(Invocation::Ask(question_of(alloc, operation, matches)?)),
-            None => Ok(Invocation::Ended(2)),
+            None => Ok(ended(ExitStatus::Arguments)),
         },
     }
 }
@@ -217,7 +224,7 @@ fn parse(alloc: Global, words: &[String]) -> Result<Invocation, Error> {
     let matches = command(alloc)?.try_get_matches_from(words)?;
     match matches.subcommand() {
         Some((name, found)) => Ok(asked_of(alloc, name, found)?),
-        None => Ok(Invocation::Ended(2)),
+        None => Ok(ended(ExitStatus::Arguments)),
     }
 }
 
@@ -239,7 +246,7 @@ pub fn read_arguments(rt: &HostRuntime) -> Invocation {
         let _ = eprintln!(rt;
             "error: a word of the command line is not UTF-8, or there is no memory for it"
         );
-        return Invocation::Ended(2);
+        return ended(ExitStatus::Arguments);
     };
     match parse(rt.alloc(), words.as_slice()) {
         Ok(found) => found,
@@ -249,8 +256,8 @@ pub fn read_arguments(rt: &HostRuntime) -> Invocation {
             let printed = error.print(rt);
             report_input(rt, words.as_slice(), kind);
             match printed {
-                Err(_) if is_help => Invocation::Ended(1),
-                _ => Invocation::Ended(usage_status(is_help)),
+                Err(_) if is_help => ended(ExitStatus::Failure),
+                _ => Invocation::Ended(ExitCode::from(usage_status(is_help))),
             }
         }
     }

@@ -22,9 +22,9 @@ mod commands;
 
 use arguments::{Invocation, read_arguments};
 use hdl_commands::{
-    BatchFault, Printout, ask_site, explain, export_values, import_file, make_site, random_secret,
-    replace_urls, run_batch_text, run_request, show_site, tenants_faults, write_initial_tenants,
-    write_script, write_tenants,
+    BatchFault, ExitStatus, Printout, ask_site, explain, export_values, import_file, make_site,
+    random_secret, replace_urls, run_batch_text, run_request, show_site, tenants_faults,
+    write_initial_tenants, write_script, write_tenants,
 };
 use hdl_value::Wire;
 use std::io::{self, ErrorKind, IsTerminal, Read};
@@ -63,7 +63,7 @@ fn text_of(rt: &HostRuntime) -> io::Result<String> {
     Ok(text)
 }
 
-fn batch_all(rt: &HostRuntime, server: &str, wire: Wire) -> io::Result<u8> {
+fn batch_all(rt: &HostRuntime, server: &str, wire: Wire) -> io::Result<ExitStatus> {
     let text = text_of(rt)?;
     Ok(run_batch_text(rt, server, wire, &text))
 }
@@ -72,30 +72,30 @@ fn batch_all(rt: &HostRuntime, server: &str, wire: Wire) -> io::Result<u8> {
 fn print_made<E: std::fmt::Display + Drop>(
     rt: &HostRuntime,
     made: Result<String, E>,
-) -> io::Result<u8> {
+) -> io::Result<ExitStatus> {
     match made {
         Ok(text) => {
             print!(rt; "{text}")?;
-            Ok(0)
+            Ok(ExitStatus::Success)
         }
         Err(fault) => {
             let _ = eprintln!(rt; "hdl: {fault}");
-            Ok(2)
+            Ok(ExitStatus::Arguments)
         }
     }
 }
 
-fn script_all(rt: &HostRuntime) -> io::Result<u8> {
+fn script_all(rt: &HostRuntime) -> io::Result<ExitStatus> {
     let text = text_of(rt)?;
     print_made(rt, write_script(rt.alloc(), &text))
 }
 
 /// Prints the tenants text, or which lines of the words can't be read.
-fn tenants_all(rt: &HostRuntime) -> io::Result<u8> {
+fn tenants_all(rt: &HostRuntime) -> io::Result<ExitStatus> {
     let text = text_of(rt)?;
     if let Ok(made) = write_tenants(rt.alloc(), &text) {
         print!(rt; "{made}")?;
-        return Ok(0);
+        return Ok(ExitStatus::Success);
     }
     for fault in &tenants_faults(rt.alloc(), &text)? {
         let _ = eprintln!(rt; "hdl: {fault}");
@@ -103,7 +103,7 @@ fn tenants_all(rt: &HostRuntime) -> io::Result<u8> {
     let _ = eprintln!(rt;
         "hdl: nothing was printed: correct the lines, and start no server with the empty text"
     );
-    Ok(2)
+    Ok(ExitStatus::Arguments)
 }
 
 /// What the operator does with the text of `hdl init`.
@@ -115,9 +115,9 @@ const NEXT: &str = "\
 /// What he does besides where the ports have the layout of values of the Handle.Net software.
 const HANDLE_NET: &str = "hdl: each command that asks this service needs --handle-net\n";
 
-fn init(rt: &HostRuntime, wire: Wire, prefixes: &[String]) -> io::Result<u8> {
+fn init(rt: &HostRuntime, wire: Wire, prefixes: &[String]) -> io::Result<ExitStatus> {
     let status = print_made(rt, write_initial_tenants(rt, wire, prefixes))?;
-    if status == 0 {
+    if status == ExitStatus::Success {
         let _ = eprint!(rt; "{NEXT}");
         if wire == Wire::HandleNet {
             let _ = eprint!(rt; "{HANDLE_NET}");
@@ -126,7 +126,7 @@ fn init(rt: &HostRuntime, wire: Wire, prefixes: &[String]) -> io::Result<u8> {
     Ok(status)
 }
 
-fn key(rt: &HostRuntime) -> io::Result<u8> {
+fn key(rt: &HostRuntime) -> io::Result<ExitStatus> {
     let line = match random_secret(rt) {
         Ok(secret) => Ok(format!(in rt.alloc(); "{secret}\n")?),
         Err(fault) => Err(fault),
@@ -134,30 +134,31 @@ fn key(rt: &HostRuntime) -> io::Result<u8> {
     print_made(rt, line)
 }
 
-/// Does what the command line asks for, and answers the exit status.
-fn run(rt: &HostRuntime) -> io::Result<u8> {
-    match read_arguments(rt) {
+/// Does what the command line asks for, and answers how the program ends.
+fn run(rt: &HostRuntime) -> io::Result<ExitCode> {
+    let status = match read_arguments(rt) {
         Invocation::Explain { wire, shows_keys } => {
             explain_all(rt, wire, shows_keys)?;
-            Ok(0)
+            ExitStatus::Success
         }
-        Invocation::Ask(question) => Ok(run_request(rt, &question)),
-        Invocation::Batch { server, wire } => batch_all(rt, &server, wire),
-        Invocation::Import(import) => Ok(import_file(rt, &import)),
-        Invocation::Replace(replacement) => Ok(replace_urls(rt, &replacement)),
+        Invocation::Ask(question) => run_request(rt, &question),
+        Invocation::Batch { server, wire } => batch_all(rt, &server, wire)?,
+        Invocation::Import(import) => import_file(rt, &import),
+        Invocation::Replace(replacement) => replace_urls(rt, &replacement),
         Invocation::Export { table, shows_keys } => {
             report_reading(rt);
-            Ok(export_values(rt, table, shows_keys))
+            export_values(rt, table, shows_keys)
         }
-        Invocation::Script => script_all(rt),
-        Invocation::Tenants => tenants_all(rt),
-        Invocation::Init { wire, prefixes } => init(rt, wire, &prefixes),
-        Invocation::Key => key(rt),
-        Invocation::MakeSite(words) => Ok(make_site(rt, &words)),
-        Invocation::ShowSite { word } => Ok(show_site(rt, &word)),
-        Invocation::AskSite { server } => Ok(ask_site(rt, &server)),
-        Invocation::Ended(status) => Ok(status),
-    }
+        Invocation::Script => script_all(rt)?,
+        Invocation::Tenants => tenants_all(rt)?,
+        Invocation::Init { wire, prefixes } => init(rt, wire, &prefixes)?,
+        Invocation::Key => key(rt)?,
+        Invocation::MakeSite(words) => make_site(rt, &words),
+        Invocation::ShowSite { word } => show_site(rt, &word),
+        Invocation::AskSite { server } => ask_site(rt, &server),
+        Invocation::Ended(code) => return Ok(code),
+    };
+    Ok(ExitCode::from(status))
 }
 
 /// What to do about a fault of standard input or output.
@@ -171,11 +172,11 @@ fn advice_for(kind: ErrorKind) -> &'static str {
 
 fn main(rt: HostRuntime) -> ExitCode {
     match run(&rt) {
-        Ok(status) => ExitCode::from(status),
+        Ok(code) => code,
         Err(fault) => {
             let way = advice_for(fault.kind());
             let _ = eprintln!(rt; "hdl: {fault}{way}");
-            ExitCode::from(1)
+            ExitCode::from(ExitStatus::Failure)
         }
     }
 }

@@ -1,15 +1,16 @@
 -- What the counts of a batch's outcomes say of all of them.
-use Rattle.std.proofs.Common.{◌≡◌, ◌↔◌, ◌⊎◌, inl, inr, ℕ, zero, suc, ◌+◌, nat_lt, ◌<◌, true, false, List, [], ◌∷◌, ◌++◌, map, length, get_or, drop, All, Contains, OnOk, Result, Ok, Err, refl, sym, ap, subst, ◌∙◌, arith, append_assoc, append-nil}
+use Rattle.std.proofs.Common.{◌≡◌, ◌↔◌, ◌⊎◌, inl, inr, ℕ, ◌+◌, ◌<◌, true, false, List, [], ◌∷◌, ◌++◌, map, length, get_or, drop, All, Contains, OnOk, Result, Ok, Err, refl, sym, ap, subst, ◌∙◌, arith, append_assoc, append-nil}
 use Rattle.std.specs.Prelude.{⊤}
-use Rattle.std.specs.Int.{from_bool}
 use Rattle.std.specs.List.{FoldsTo, filter}
-use Rattle.std.proofs.lemmas.Bool.{lt-ltb, cond-true, cond-false}
+use Rattle.std.proofs.lemmas.Bool.{cond-true, cond-false}
 use Rattle.std.proofs.lemmas.List.{at_drop_more, map-append}
 use Rattle.std.proofs.lemmas.List.Elements.{All-nil, All-cons, All-head, All-tail, Contains-append_left, Contains-push}
 use Rattle.hdl_client.specs.Outcomes.{Outcome, IsWhole}
 use Rattle.hdl_client.specs.declared.challenge.Key.{Key}
 use Rattle.hdl_client.specs.declared.task.Task.{Task}
 use Rattle.hdl_client.specs.declared.transport.Transport.{Ghosts}
+use Rattle.hdl_commands.specs.declared.exit_status.ExitStatus.{ExitStatus}
+use Rattle.hdl_commands.specs.declared.exit_status.ExitStatus.TheVariants as exits
 use Rattle.hdl_commands.specs.Ended.{IsDone, keeps_nothing, IsAsked, IsStatusOf, EndsWith, IsDoneOrAt, LeavesLines, line_of, is_at, found_lines, AsksAgain}
 
 -- what follows of a success
@@ -37,13 +38,6 @@ asked_all g notes keys tasks before after begun ended whole = record {
 
 -- ---- a count of failures
 
--- the status that says whether there are some
-pub status_in : (failures status : ℕ) → status ≡ from_bool (nat_lt 0 failures) → ((failures ≡ 0) × (status ≡ 0)) ⊎ ((0 < failures) × (status ≡ 1))
-status_in zero status e = inl (refl, e)
-status_in (suc n) status e =
-    let some : 0 < suc n = omega arith in
-    inr (some, e ∙ ap from_bool (lt-ltb 0 (suc n) some))
-
 module _ {O : Type 0} (failures : O → ℕ) where
   -- none has failed exactly if none had and this one is done
   abbrev pub counts : O → Task → ℕ → O → Type 0
@@ -63,14 +57,14 @@ module _ {O : Type 0} (failures : O → ℕ) where
         λ h. later.1 (first.1 (h.0, All-head IsDone o os h.1), All-tail IsDone o os h.1),
       )
 
-  status_of : (told : List Outcome) (begun ended : O) (status : ℕ) → failures begun ≡ 0 → (failures ended ≡ 0) ↔ ((failures begun ≡ 0) × All IsDone told)
-      → ((failures ended ≡ 0) × (status ≡ 0)) ⊎ ((0 < failures ended) × (status ≡ 1)) → IsStatusOf told status
+  status_of : (told : List Outcome) (begun ended : O) (status : ExitStatus) → failures begun ≡ 0 → (failures ended ≡ 0) ↔ ((failures begun ≡ 0) × All IsDone told)
+      → ((failures ended ≡ 0) × (status ≡ exits.Success)) ⊎ ((0 < failures ended) × (status ≡ exits.Failure)) → IsStatusOf told status
   status_of told begun ended status none all (inl h) = inl (h.1, (all.0 h.0).1)
   status_of told begun ended status none all (inr h) = inr (h.1, λ done. absurd (omega (arith, h.0, all.1 (none, done))))
 
   -- a status that says whether one has failed
-  pub ends_with : {T : Type 0} (g : Ghosts T) (keys : List Key) (tasks : List Task) (before after : T) (begun ended : O) (status : ℕ)
-      → failures begun ≡ 0 → IsWhole g counts keys tasks before begun after ended → ((failures ended ≡ 0) × (status ≡ 0)) ⊎ ((0 < failures ended) × (status ≡ 1))
+  pub ends_with : {T : Type 0} (g : Ghosts T) (keys : List Key) (tasks : List Task) (before after : T) (begun ended : O) (status : ExitStatus)
+      → failures begun ≡ 0 → IsWhole g counts keys tasks before begun after ended → ((failures ended ≡ 0) × (status ≡ exits.Success)) ⊎ ((0 < failures ended) × (status ≡ exits.Failure))
       → EndsWith g keys tasks before after status
   ends_with g keys tasks before after begun ended status none whole says =
       let all : (failures ended ≡ 0) ↔ ((failures begun ≡ 0) × All IsDone whole.0.told) = counted whole.0.told begun ended whole.1.told in

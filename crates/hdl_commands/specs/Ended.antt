@@ -3,6 +3,8 @@ use Rattle.std.specs.Prelude.{◌≡◌, ◌==◌, ◌⊎◌, ⊤, ℕ, Bool, Li
 use Rattle.std.specs.List.{filter, list_any}
 use Rattle.hdl_msg.specs.declared.codes.ResponseCode.TheVariants.{Success}
 use Rattle.hdl_msg.specs.Codes.{response_number}
+use Rattle.hdl_commands.specs.declared.exit_status.ExitStatus.{ExitStatus}
+use Rattle.hdl_commands.specs.declared.exit_status.ExitStatus.TheVariants as exits
 use Rattle.hdl_client.specs.Outcomes.{Outcome, Run, IsRun}
 use Rattle.hdl_client.specs.declared.challenge.Key.{Key}
 use Rattle.hdl_client.specs.declared.task.Task.{Task}
@@ -20,12 +22,12 @@ keeps_nothing _ _ _ _ = ⊤
 abbrev pub IsAsked : {T : Type 0} → Ghosts T → List Key → List Task → T → T → Run → Type 0
 IsAsked g keys tasks before after run = IsRun g keeps_nothing keys before tt tasks run after tt []
 
--- the status is 0 if each request was answered that it was done, and 1 otherwise
-abbrev pub IsStatusOf : List Outcome → ℕ → Type 0
-IsStatusOf told status = ((status ≡ 0) × All IsDone told) ⊎ ((status ≡ 1) × ¬ (All IsDone told))
+-- the status is that of success if each request was answered that it was done, and that of failure otherwise
+abbrev pub IsStatusOf : List Outcome → ExitStatus → Type 0
+IsStatusOf told status = ((status ≡ exits.Success) × All IsDone told) ⊎ ((status ≡ exits.Failure) × ¬ (All IsDone told))
 
 -- all was asked, and the status says whether all was done
-abbrev pub EndsWith : {T : Type 0} → Ghosts T → List Key → List Task → T → T → ℕ → Type 0
+abbrev pub EndsWith : {T : Type 0} → Ghosts T → List Key → List Task → T → T → ExitStatus → Type 0
 EndsWith g keys tasks before after status = (run : Run) × IsAsked g keys tasks before after run × IsStatusOf run.told status
 
 -- the request was answered that it was done, or the line that it begins at is among these

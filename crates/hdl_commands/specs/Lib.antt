@@ -1,4 +1,5 @@
 pub mod Ended
+pub mod Exits
 pub mod Printout
 pub mod Replace
 pub mod Rows

@@ -1,6 +1,7 @@
 //! One request, asked of a server.
 
 use crate::advice::{Asked, KeyWords, UNSAYABLE, advice, is_unsayable};
+use crate::exit_status::ExitStatus;
 use crate::fault::ArgumentFault;
 use crate::key::key_of;
 use crate::reporting::{may_be_done, report_fault};
@@ -51,12 +52,12 @@ pub enum RequestFault {
 }
 
 impl RequestFault {
-    /// The exit status: 2 for words, 3 where no answer came that can be read, 1 else.
-    pub fn status(self) -> u8 {
+    /// How the command ends.
+    pub fn status(self) -> ExitStatus {
         match self {
-            RequestFault::Words(_) | RequestFault::Word(_, _) => 2,
-            RequestFault::Client(_) => 3,
-            RequestFault::Output => 1,
+            RequestFault::Words(_) | RequestFault::Word(_, _) => ExitStatus::Arguments,
+            RequestFault::Client(_) => ExitStatus::NoAnswer,
+            RequestFault::Output => ExitStatus::Failure,
         }
     }
 }
@@ -142,13 +143,17 @@ fn report_unsayable(rt: &HostRuntime, question: &RequestOptions) {
     }
 }
 
-/// Prints a reply; answers 0 where its code is that of success, and else 1 with the code's name on standard error.
-fn show(rt: &HostRuntime, question: &RequestOptions, reply: &Reply) -> Result<u8, RequestFault> {
+/// Prints a reply. Answers success if its code is that of success, and else failure, with the code's name on standard error.
+fn show(
+    rt: &HostRuntime,
+    question: &RequestOptions,
+    reply: &Reply,
+) -> Result<ExitStatus, RequestFault> {
     let view = reply.view();
     print_reply(rt, question, &reply.envelope(), &view)?;
     if view.code() == Some(ResponseCode::Success) {
         report_unsayable(rt, question);
-        return Ok(0);
+        return Ok(ExitStatus::Success);
     }
     let code = view.header.response_code;
     let handle = handle_of(rt.alloc(), question)?;
@@ -159,7 +164,7 @@ fn show(rt: &HostRuntime, question: &RequestOptions, reply: &Reply) -> Result<u8
     };
     let more = advice(rt.alloc(), &asked, code)?;
     let _ = eprintln!(rt; "hdl: {code} {}{more}", code_name(code));
-    Ok(1)
+    Ok(ExitStatus::Failure)
 }
 
 fn reply_to(
@@ -178,7 +183,7 @@ fn show_reply(
     question: &RequestOptions,
     body: &RequestBody,
     key: Option<&Key>,
-) -> Result<u8, RequestFault> {
+) -> Result<ExitStatus, RequestFault> {
     let reply = reply_to(rt, question, body, key)?;
     show(rt, question, &reply)
 }
@@ -187,12 +192,12 @@ fn ask_and_show(
     rt: &HostRuntime,
     question: &RequestOptions,
     key: Option<&Key>,
-) -> Result<u8, RequestFault> {
+) -> Result<ExitStatus, RequestFault> {
     let body = body_of(rt.alloc(), question)?;
     show_reply(rt, question, &body, key)
 }
 
-fn ask_with_key(rt: &HostRuntime, question: &RequestOptions) -> Result<u8, RequestFault> {
+fn ask_with_key(rt: &HostRuntime, question: &RequestOptions) -> Result<ExitStatus, RequestFault> {
     match &question.key {
         Some(words) => {
             let key = key_of(rt, words)?;
@@ -290,7 +295,7 @@ fn report(rt: &HostRuntime, question: &RequestOptions, fault: RequestFault) {
 
 /// Asks, and prints the answer in words. Answers the exit status: 0 for code 1, 1 for another code, whose name is then on standard
 /// error, 2 for words that are no request, 3 where the server can't be reached or says nothing that can be read.
-pub fn run_request(rt: &HostRuntime, question: &RequestOptions) -> u8 {
+pub fn run_request(rt: &HostRuntime, question: &RequestOptions) -> ExitStatus {
     match ask_with_key(rt, question) {
         Ok(status) => status,
         Err(fault) => {

@@ -4,9 +4,11 @@ ghost use Rattle.std.specs.Prelude.{◌≡◌, ◌≢◌, ◌↔◌, IfOk};
 ghost use Rattle.hdl_msg.specs.declared.codes.ResponseCode.TheVariants.{Success};
 ghost use Rattle.hdl_msg.specs.Codes.{response_number};
 ghost use Rattle.hdl_commands.specs.Ended.{EndsWith};
+ghost use Rattle.hdl_commands.specs.declared.exit_status.ExitStatus.TheVariants as exits;
 
 use crate::advice::{KeyWords, asked_by, line_advice};
 use crate::batch_text::{Layouts, read_batch};
+use crate::exit_status::ExitStatus;
 use crate::reporting::report_fault;
 use crate::words::code_name;
 use hdl_client::{Batch, ClientFault, Outcomes, Session, Task, Transport, connect};
@@ -86,25 +88,25 @@ fn print_end(printer: &BatchPrinter<'_>) {
 }
 
 /// Says on standard error why so many requests have no outcome. Answers the exit status.
-fn report_unanswered(rt: &HostRuntime, server: &str, fault: ClientFault, left: usize) -> u8
-    ensures { result ≡ 3 }
+fn report_unanswered(rt: &HostRuntime, server: &str, fault: ClientFault, left: usize) -> ExitStatus
+    ensures { result ≡ exits.NoAnswer }
 {
     report_fault(rt, server, fault);
     let _ = eprintln!(rt; "; {left} without an outcome");
-    3
+    ExitStatus::NoAnswer
 }
 
-/// Asks all of a batch. Answers the exit status: 0 if each request succeeded, 1 otherwise.
+/// Asks all of a batch. Answers the exit status: success if each request succeeded, else failure.
 fn ask_all<S: Transport>(
     session: &mut Session<S>,
     batch: &Batch,
     printer: &mut BatchPrinter<'_>,
-) -> Result<u8, ClientFault>
+) -> Result<ExitStatus, ClientFault>
     requires { printer.old.failures ≡ 0 }
     ensures whole { IfOk result (EndsWith S.Transport batch.now.keys.items batch.now.tasks.items session.old.stream session.new.stream) }
 {
     session.run_batch(batch, printer)?;
-    Ok(u8::from(printer.failures > 0))
+    Ok(ExitStatus::of_failures(printer.failures))
 }
 
 /// Asks all of a batch, and prints a line for each outcome as it comes, with what to do about it, and at the end how many succeeded and the lines of those that
@@ -115,8 +117,8 @@ pub fn ask_batch<S: Transport>(
     server: &str,
     session: &mut Session<S>,
     batch: &Batch,
-) -> u8
-    ensures whole { result ≢ 3 → EndsWith S.Transport batch.now.keys.items batch.now.tasks.items session.old.stream session.new.stream result }
+) -> ExitStatus
+    ensures whole { result ≢ exits.NoAnswer → EndsWith S.Transport batch.now.keys.items batch.now.tasks.items session.old.stream session.new.stream result }
 {
     let mut printer = BatchPrinter {
         rt,
@@ -138,12 +140,12 @@ pub fn ask_batch<S: Transport>(
 
 /// Asks all of a batch of a server that speaks of values by this layout, over one connection ([`ask_batch`]). Answers the exit status: that
 /// of the batch, 2 for a text that is no batch, of which nothing was sent, and 3 if there is no connection.
-pub fn run_batch_text(rt: &HostRuntime, server: &str, wire: Wire, text: &str) -> u8 {
+pub fn run_batch_text(rt: &HostRuntime, server: &str, wire: Wire, text: &str) -> ExitStatus {
     let batch = match read_batch(rt.alloc(), Layouts::One(wire), text) {
         Ok(batch) => batch,
         Err(fault) => {
             let _ = eprintln!(rt; "hdl: {fault}");
-            return 2;
+            return ExitStatus::Arguments;
         }
     };
     match connect(rt, server) {

@@ -4,6 +4,7 @@ ghost use Rattle.std.specs.Prelude.{◌≡◌, true, false, IfOk};
 ghost use Rattle.hdl_value.specs.Refs.{is_secret_key};
 ghost use Rattle.hdl_commands.specs.declared.exports.Exported.TheVariants as exported;
 
+use crate::exit_status::ExitStatus;
 use crate::imports::{HEADER, row_of};
 use crate::words::line_of;
 use hdl_value::{Value, cut_value};
@@ -221,7 +222,7 @@ fn report_none(rt: &HostRuntime, counts: Counts) {
 /// Writes the values of the tenants text on standard input as a table, without those that are keys unless they are asked for, and says
 /// on standard error how many there are. Other lines are passed over. Answers the exit status: 0, or 1 where no row says a value, or
 /// a stream failed.
-pub fn export_values(rt: &HostRuntime, table: ExportFormat, shows_keys: bool) -> u8 {
+pub fn export_values(rt: &HostRuntime, table: ExportFormat, shows_keys: bool) -> ExitStatus {
     match export_lines(rt, table, shows_keys) {
         Ok(counts) => {
             let Counts {
@@ -233,11 +234,11 @@ pub fn export_values(rt: &HostRuntime, table: ExportFormat, shows_keys: bool) ->
                 "hdl: {written} values written, {keys} keys left out, {unsaid} that no row says"
             );
             report_none(rt, counts);
-            u8::from(unsaid > 0)
+            ExitStatus::of_failures(unsaid)
         }
         Err(fault) => {
             let _ = eprintln!(rt; "hdl: {fault}");
-            1
+            ExitStatus::Failure
         }
     }
 }

@@ -6,6 +6,7 @@ ghost use Rattle.hex.specs.Hex.{encode_lower};
 ghost use Rattle.hdl_site.specs.Info.{site_octets};
 ghost use Rattle.hdl_site.specs.Making.{planned_site};
 
+use crate::exit_status::ExitStatus;
 use crate::reporting::report_fault;
 use crate::words::{Printout, code_name};
 use hdl_client::{ClientFault, Reply, connect};
@@ -160,16 +161,16 @@ fn made(rt: &HostRuntime, words: &SiteOptions) -> Result<String, SiteFault> {
 
 /// Makes the data of the HS_SITE value of a server, and prints it or writes it to a file; on standard error, what to do with it. Answers the
 /// exit status: 0, or 2 for words of which none is made.
-pub fn make_site(rt: &HostRuntime, words: &SiteOptions) -> u8 {
+pub fn make_site(rt: &HostRuntime, words: &SiteOptions) -> ExitStatus {
     match made(rt, words) {
         Ok(line) => {
             let _ = print!(rt; "{line}");
             let _ = eprint!(rt; "{NEXT}");
-            0
+            ExitStatus::Success
         }
         Err(fault) => {
             let _ = eprintln!(rt; "hdl: {fault}");
-            2
+            ExitStatus::Arguments
         }
     }
 }
@@ -329,15 +330,15 @@ fn told(rt: &HostRuntime, word: &str) -> Result<Printout, SiteFault> {
 
 /// Prints in words what the data of an HS_SITE value says: of these hexadecimal digits, or of a file with the octets or their digits. Answers the
 /// exit status: 0, or 2 where it is no such data.
-pub fn show_site(rt: &HostRuntime, word: &str) -> u8 {
+pub fn show_site(rt: &HostRuntime, word: &str) -> ExitStatus {
     match told(rt, word) {
         Ok(printout) => {
             let _ = print!(rt; "{}", printout.as_str());
-            0
+            ExitStatus::Success
         }
         Err(fault) => {
             let _ = eprintln!(rt; "hdl: {fault}");
-            2
+            ExitStatus::Arguments
         }
     }
 }
@@ -383,7 +384,7 @@ fn advice_for(code: u32) -> &'static str {
 }
 
 /// Prints what a server said, and answers the exit status.
-fn show_answer(rt: &HostRuntime, answer: &SiteAnswer) -> u8 {
+fn show_answer(rt: &HostRuntime, answer: &SiteAnswer) -> ExitStatus {
     let _ = match answer {
         SiteAnswer::Site(printout) => print!(rt; "{}", printout.as_str()),
         SiteAnswer::Other(digits) => {
@@ -394,21 +395,21 @@ fn show_answer(rt: &HostRuntime, answer: &SiteAnswer) -> u8 {
         }
     };
     match answer {
-        SiteAnswer::Site(_) => 0,
-        _ => 1,
+        SiteAnswer::Site(_) => ExitStatus::Success,
+        _ => ExitStatus::Failure,
     }
 }
 
 /// Asks a server, `HOST:PORT`, for its site information (OpCode 2), and prints in words what it says. Answers the exit status: 0; 1 where the server
 /// answers another code, whose name is then on standard error, or octets that are no data of an HS_SITE value; 3 where it can't be reached or says
 /// nothing that can be read.
-pub fn ask_site(rt: &HostRuntime, server: &str) -> u8 {
+pub fn ask_site(rt: &HostRuntime, server: &str) -> ExitStatus {
     match asked(rt, server) {
         Ok(answer) => show_answer(rt, &answer),
         Err(fault) => {
             report_fault(rt, server, fault);
             let _ = eprintln!(rt);
-            3
+            ExitStatus::NoAnswer
         }
     }
 }

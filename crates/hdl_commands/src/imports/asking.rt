@@ -2,6 +2,7 @@
 
 use crate::advice::{UNSAYABLE, is_unsayable};
 use crate::batches::shows_progress;
+use crate::exit_status::ExitStatus;
 use crate::fault::ArgumentFault;
 use crate::imports::columns::Columns;
 use crate::imports::counts::{Counts, Refusal};
@@ -63,11 +64,13 @@ enum ImportFault {
 }
 
 impl ImportFault {
-    fn status(&self) -> u8 {
+    fn status(&self) -> ExitStatus {
         match self {
-            ImportFault::File(_) | ImportFault::Header(_) | ImportFault::Words(_) => 2,
-            ImportFault::Client(_) => 3,
-            ImportFault::Key | ImportFault::ReadOnly | ImportFault::Busy => 1,
+            ImportFault::File(_) | ImportFault::Header(_) | ImportFault::Words(_) => {
+                ExitStatus::Arguments
+            }
+            ImportFault::Client(_) => ExitStatus::NoAnswer,
+            ImportFault::Key | ImportFault::ReadOnly | ImportFault::Busy => ExitStatus::Failure,
         }
     }
 }
@@ -329,14 +332,14 @@ fn report(rt: &HostRuntime, import: &ImportOptions, fault: &ImportFault) {
 /// aren't, brings the values of its rows to one that is, and prints what it changes. Answers the exit status: 0 where all handles are
 /// as the rows say, 1 where some aren't, or the key or every change is refused, or the server stays busy, 2 where nothing was sent, and 3 where the connection failed. A dry import tells
 /// what is wrong with the file alone, and a dry update what it would change.
-pub fn import_file(rt: &HostRuntime, import: &ImportOptions) -> u8 {
+pub fn import_file(rt: &HostRuntime, import: &ImportOptions) -> ExitStatus {
     let mut counts = Counts::new(Progress::new(rt, 0, false));
     let ended = import_rows(rt, import, &mut counts);
     let status = match &ended {
-        Ok(()) => u8::from(counts.failed > 0),
+        Ok(()) => ExitStatus::of_failures(counts.failed),
         Err(fault) => fault.status(),
     };
-    if status != 2 {
+    if status != ExitStatus::Arguments {
         print_counts(rt, import, &counts);
     }
     if let Err(fault) = ended {

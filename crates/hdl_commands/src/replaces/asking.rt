@@ -1,6 +1,7 @@
 //! Replacements, asked of a server.
 
 use crate::advice::{Asked, KeyWords, advice};
+use crate::exit_status::ExitStatus;
 use crate::fault::ArgumentFault;
 use crate::imports::HEADER;
 use crate::key::key_of;
@@ -160,7 +161,7 @@ fn replace(
     replace_run: &mut ReplaceRun<'_>,
     authority: &Name,
     from_file: Option<Vec<Vec<u8>>>,
-) -> Result<u8, ReplaceFault> {
+) -> Result<ExitStatus, ReplaceFault> {
     let (rt, replacement) = (replace_run.rt, replace_run.replacement);
     let mut session = connect(rt, &replacement.server)?;
     let handles = match from_file {
@@ -187,7 +188,7 @@ fn replace(
         println!(rt; "{changed} changed, {kept} have no such URL, {failed} failed")
     };
     ended?;
-    Ok(u8::from(failed > 0))
+    Ok(ExitStatus::of_failures(failed))
 }
 
 /// Removes the file for the old values, if it was made and has none: the next run would refuse it.
@@ -204,7 +205,7 @@ fn remove_unused(replace_run: ReplaceRun<'_>) {
     }
 }
 
-fn run(rt: &HostRuntime, replacement: &ReplaceOptions) -> Result<u8, ReplaceFault> {
+fn run(rt: &HostRuntime, replacement: &ReplaceOptions) -> Result<ExitStatus, ReplaceFault> {
     let authority = authority_of(rt.alloc(), &replacement.prefix)?;
     let from_file = named(rt, replacement)?;
     let mut replace_run = replace_run_of(rt, replacement, &authority)?;
@@ -279,7 +280,7 @@ fn report(rt: &HostRuntime, replacement: &ReplaceOptions, fault: &ReplaceFault) 
 /// octets begins with the new ones afterwards, and nothing else of a value changes. Prints what is changed, or in a dry run would be, and how
 /// many handles came to what. Answers the exit status: 0, 1 where a handle failed or there is no list, 2 where nothing was sent, and 3
 /// where the connection failed.
-pub fn replace_urls(rt: &HostRuntime, replacement: &ReplaceOptions) -> u8 {
+pub fn replace_urls(rt: &HostRuntime, replacement: &ReplaceOptions) -> ExitStatus {
     match run(rt, replacement) {
         Ok(status) => status,
         Err(fault) => {

@@ -1,5 +1,6 @@
 //! Why a replacement stopped.
 
+use crate::exit_status::ExitStatus;
 use crate::fault::ArgumentFault;
 use hdl_client::ClientFault;
 use std::alloc::{AllocError, AllocFailed};
@@ -34,14 +35,14 @@ impl ReplaceFault {
         matches!(self, ReplaceFault::Refused | ReplaceFault::ReadOnly)
     }
 
-    pub fn status(&self) -> u8 {
+    pub fn status(&self) -> ExitStatus {
         match self {
-            ReplaceFault::Client(_) => 3,
+            ReplaceFault::Client(_) => ExitStatus::NoAnswer,
             ReplaceFault::List(_)
             | ReplaceFault::Refused
             | ReplaceFault::ReadOnly
-            | ReplaceFault::Unwritten(_) => 1,
-            _ => 2,
+            | ReplaceFault::Unwritten(_) => ExitStatus::Failure,
+            _ => ExitStatus::Arguments,
         }
     }
 }
