@@ -50,6 +50,7 @@ INPUT_LIMIT = re.compile(r"^pub const (INPUT_LIMIT): usize = ([\d_]+);$", re.MUL
 PROMISES = ("docs/PROMISES.md", "docs/CLIENT_PROMISES.md")
 NUMERALS = {"two": "2", "eight": "8", "ten": "10"}
 OPTIONS, LISTENING, LIMITS = "crates/hdl_server_options/src/commands.rt", "crates/hdl_listeners/src/listening.rt", "crates/hdl_limits/src/lib.rt"
+COMMANDS, ARGUMENTS, SITES = "crates/hdl/src/commands.rt", "crates/hdl/src/arguments.rt", "crates/hdl_commands/src/sites.rt"
 PROXY, GATHERING, ADVICE, REASONS = "crates/hdl_web/src/options.rt", "crates/hdl_web/src/change_requests.rt", "crates/hdl_commands/src/advice.rt", "crates/hdl_tenants_check/src/reasons.rt"
 # Where a default or a limit stands in a text that a program prints, and the constant that it is.
 PRINTED = (
@@ -58,26 +59,35 @@ PRINTED = (
     (OPTIONS, r"overflow lane; (\d+) by default", LISTENING, "crowd"),
     (OPTIONS, r"reads go on; (\d+) by default", LISTENING, "reserve"),
     (OPTIONS, r"read last; (\d+) by default", "crates/hdl_cachedrows/src/cached.rt", "LIMIT_DEFAULT"),
-    ("crates/hdl/src/commands.rt", r"server to ask; (\S+) by default", "crates/hdl/src/arguments.rt", "DEFAULT_SERVER"),
+    (OPTIONS, r"etcd begin with; (\w+) by default", "crates/hdl_server_options/src/serving.rt", "CLUSTER_NAME"),
+    (COMMANDS, r"server to ask; (\S+) by default", ARGUMENTS, "DEFAULT_SERVER"),
+    (COMMANDS, r"rows that say none; (\d+) by default", "crates/hdl_commands/src/imports/row.rt", "DAY_SECONDS"),
+    (COMMANDS, r"port of its publisher; (\d+) by default", ARGUMENTS, "DEFAULT_PORT"),
+    (COMMANDS, r"number of the data, (\d+) by default", ARGUMENTS, "DEFAULT_SERIAL"),
     (PROXY, r"listen at; may be repeated; (\S+) by default", PROXY, "DEFAULT_LISTEN"),
     (PROXY, r"each address; (\d+) by default", PROXY, "DEFAULT_THREADS"),
     (PROXY, r"asked at once; (\d+) by default", PROXY, "DEFAULT_ASKERS"),
     (PROXY, r"whole answer; (\d+) by default", PROXY, "DEFAULT_TIMEOUT_SECONDS"),
     (PROXY, r"every page; (\S+) by default", PROXY, "DEFAULT_SITE"),
+    (PROXY, r"a redirect at most; (\d+) by default", PROXY, "DEFAULT_REDIRECT_SECONDS"),
     (GATHERING, r"larger than (\d+) octets", GATHERING, "BODY_MOST"),
     (GATHERING, r"within (\d+) seconds", GATHERING, "BODY_SECONDS"),
     (ADVICE, r"one reply \(([\d,]+) octets\)", LIMITS, "MESSAGE_MAX"),
     (REASONS, r"the handle has ([\d,]+) values", LIMITS, "VALUES_MAX"),
     (REASONS, r"a publisher's name is 1 to (\d+)", LIMITS, "PUBLISHER_NAME_MAX"),
     (REASONS, r"LANES is a number from 2 to (\d+)", LIMITS, "LANES"),
+    (REASONS, r"site information is ([\d,]+) octets", "crates/hdl_tenants/src/sites.rt", "SITE_MAX"),
     ("crates/hdl_tenants_check/src/report.rt", r"of (\d+) lanes", LIMITS, "LANES"),
     ("crates/hdl_commands/src/init.rt", r"a server has (\d+) lanes", LIMITS, "LANES"),
     ("crates/hdl_commands/src/init.rt", r"const LANES: usize = (\d+);", LIMITS, "LANES"),
+    (SITES, r"public key has more than ([\d,]+) octets", SITES, "KEY_MOST"),
+    ("crates/hdl_commands/src/replaces/run.rt", r"request has more than (\d+) octets", LIMITS, "MESSAGE_MAX"),
     ("crates/hdl_tables/src/copying.rt", r"each of (\d+) tries", "crates/hdl_tables/src/copying.rt", "TRIES"),
     ("crates/hdl_rest/src/mint.rt", r"All (\w+) suffixes", "crates/hdl_rest/src/mint.rt", "DRAWN_MOST"),
     ("crates/hdl_rest/src/stop.rt", r"request of more than (\d+) octets", LIMITS, "MESSAGE_MAX"),
     ("crates/hdl_rest/src/stop.rt", r"remove more than (\d+) values", LIMITS, "WRITTEN_MAX"),
     ("crates/hdl_rest/src/change_answers.rt", r"at most (\d+) values", LIMITS, "VALUES_MAX"),
+    ("crates/hdl_forms/src/forms.rt", r"within (\d+) seconds", GATHERING, "BODY_SECONDS"),
     ("crates/hdl_forms/src/fault.rt", r"at most (\d+) bytes", LIMITS, "DATA_MAX"),
     ("crates/hdl_forms/src/forms.rt", r"at most (\d+) bytes", "crates/hdl_web/src/change_requests.rt", "BODY_MOST"),
     ("crates/hdl_proxy/src/step.rt", r"beyond (\w+) handles", "crates/hdl_proxy/src/step.rt", "HOPS_MOST"),
@@ -307,7 +317,10 @@ def wrong_limits():
 
 
 def number_of(path, name):
-    """A constant's value, a number without its underscores or a text."""
+    """A constant's value, a number without its underscores or a text. It may be that of a limit less numbers."""
+    less = re.search(r"\b%s: usize = (\w+) as usize((?: - \d+)+);$" % name, text_of(path), re.MULTILINE)
+    if less:
+        return str(int(number_of(LIMITS, less[1])) - sum(map(int, re.findall(r"\d+", less[2]))))
     found = re.search(r'\b%s(?:: &?\w+ =|:) ("?)((?<=")[\w.:]+|\d[\w.:]*)\1[;,]$' % name, text_of(path), re.MULTILINE)
     return found and found[2].replace("_", "")
 

@@ -16,6 +16,11 @@ use std::process::ExitCode;
 /// The server that is asked where none is named.
 const DEFAULT_SERVER: &str = "127.0.0.1:2641";
 
+/// The port of a site that is made, and the number of its data, where none is given.
+const DEFAULT_PORT: &str = "2641";
+
+const DEFAULT_SERIAL: &str = "1";
+
 /// What the command line asks for.
 #[derive(Drop)]
 pub enum Invocation {
@@ -135,8 +140,8 @@ fn site_of(alloc: Global, matches: &ArgMatches<'_>) -> Result<Invocation, AllocE
     }
     Ok(Invocation::MakeSite(SiteOptions {
         address: word(alloc, matches, "address")?,
-        port: word_or(alloc, matches, "port", "2641")?,
-        serial: word_or(alloc, matches, "serial", "1")?,
+        port: word_or(alloc, matches, "port", DEFAULT_PORT)?,
+        serial: word_or(alloc, matches, "serial", DEFAULT_SERIAL)?,
         is_udp: matches.get_flag("udp"),
         key: given(alloc, matches, "public-key")?,
         out: given(alloc, matches, "out")?,
