@@ -330,6 +330,7 @@ def faulty_addresses():
         (["--server", ":2641=10"], 2, "error: --server :2641=10: " + port),
         (["--server", "h:1", "--standby", "h:handle=10"], 2, "error: --standby h:handle=10: " + port),
         (["--server", "h:1", "--listen", "8080"], 2, "error: --listen 8080: write an IP address with a port, such as 127.0.0.1:8080 or [::1]:8080\n"),
+        (["--server", "h:1", "--site", " "], 2, "error: --site is empty: write the site's name, such as 'Handles of the library', or leave it out\n"),
         (["--server", "h:1", "--contact", "Tom Harbour"], 2,
          "error: --contact Tom Harbour: write a mail address or a URL, such as handles@example.org or https://example.org/contact\n"),
         (["--server", "h:1", "--log", "/none/visits.log"], 1, "hdl: --log /none/visits.log: No such file or directory (os error 2): name a file that the proxy's user may write, in a folder that is there\n"),

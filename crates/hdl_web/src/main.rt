@@ -209,6 +209,17 @@ fn site(rt: &HostRuntime, words: &ProxyOptions) -> Result<Site, AllocError> {
     Site::new(rt.alloc(), &words.site, contact, address, redirects)
 }
 
+/// Whether the name of the site says something. If it doesn't, that is reported.
+fn is_site_fit(rt: &HostRuntime, words: &ProxyOptions) -> bool {
+    let is_fit = !words.site.trim().is_empty();
+    if !is_fit {
+        let _ = eprintln!(rt;
+            "error: --site is empty: write the site's name, such as 'Handles of the library', or leave it out"
+        );
+    }
+    is_fit
+}
+
 /// Whether the address that the words name, if they name one, is that of a site. If it isn't, that is reported.
 fn is_address_fit(rt: &HostRuntime, words: &ProxyOptions) -> bool {
     match &words.address {
@@ -237,7 +248,10 @@ fn is_contact_fit(rt: &HostRuntime, words: &ProxyOptions) -> bool {
 
 /// Whether all that the words name has its form. What hasn't is reported.
 fn are_words_fit(rt: &HostRuntime, words: &ProxyOptions) -> bool {
-    is_address_fit(rt, words) && is_contact_fit(rt, words) && are_addresses_fit(rt, words)
+    is_site_fit(rt, words)
+        && is_address_fit(rt, words)
+        && is_contact_fit(rt, words)
+        && are_addresses_fit(rt, words)
 }
 
 /// The log of visits, if there is one. A file that can't be written is reported.

@@ -225,14 +225,6 @@ fn text(alloc: Global, word: Option<&str>) -> Result<Option<String>, AllocError>
     }
 }
 
-/// The site's name. An empty one is as none.
-fn site_of<'a>(found: &ArgMatches<'a>) -> &'a str {
-    match found.get_str("site") {
-        Some(name) if !name.is_empty() => name,
-        _ => DEFAULT_SITE,
-    }
-}
-
 /// What the words say.
 fn proxy_options(alloc: Global, found: &ArgMatches<'_>) -> Result<ProxyOptions, AllocError> {
     Ok(ProxyOptions {
@@ -244,7 +236,7 @@ fn proxy_options(alloc: Global, found: &ArgMatches<'_>) -> Result<ProxyOptions, 
         timeout: found
             .get_one::<u64>("timeout")
             .unwrap_or(DEFAULT_TIMEOUT_SECONDS),
-        site: String::from_str(alloc, site_of(found))?,
+        site: String::from_str(alloc, found.get_str("site").unwrap_or(DEFAULT_SITE))?,
         contact: text(alloc, found.get_str("contact"))?,
         address: text(alloc, found.get_str("address"))?,
         redirects: found
