@@ -298,12 +298,12 @@ WORDS = (
     (["batch"], "DELETE 10\n", "hdl: line 1: the name has no slash"),
     (["batch"], "DELETE 10/a\n1 URL 86400 1110 UTF8 a\n", "hdl: line 2: no CREATE, ADD or MODIFY stands before this value"),
     (["batch"], ";; no value\nADD 10/a\n\n", "hdl: line 2: the operation needs values or indexes"),
-    (["batch"], "ADD 10/a\n1 URL x 1110 UTF8 a\n", "hdl: line 2: the TTL isn't a number"),
+    (["batch"], "ADD 10/a\n1 URL x 1110 UTF8 a\n", "hdl: line 2: the TTL isn't a whole number from 0 to 4294967295"),
     (["batch"], "REMOVE 1,x:10/a\n", "hdl: line 1: an index isn't a number from 1 to 4294967295"),
     (["batch"], "AUTHENTICATE SECKEY:0.NA/10\n%s\n" % SECRET, "hdl: line 2: a key isn't INDEX:HANDLE, such as 300:0.NA/10"),
     (["batch"], "AUTHENTICATE SECKEY:300:0.NA/10\n", "hdl: line 1: the secret is missing: set HDL_SECRET, or write it on the first line of standard input, or, in a batch, on the line after AUTHENTICATE"),
     (["tenants"], "value 10/a 1 URL 86400 1110 HIDDEN 3 octets\nprefix 10 acme\nvalue 10/a 2 URL x 1110 UTF8 a\n",
-     "hdl: line 1: the data is HIDDEN: write the data itself\nhdl: line 3: the TTL isn't a number\nhdl: nothing was printed: correct the lines, and start no server with the empty text"),
+     "hdl: line 1: the data is HIDDEN: write the data itself\nhdl: line 3: the TTL isn't a whole number from 0 to 4294967295\nhdl: nothing was printed: correct the lines, and start no server with the empty text"),
     (["tenants"], "\ufeffpublisher acme 4 2641\n",
      "hdl: line 1: the text begins with a byte order mark: save it as UTF-8 without one\nhdl: nothing was printed: correct the lines, and start no server with the empty text"),
     (["batch"], "\ufeffDELETE 10/a\n", "hdl: line 1: the text begins with a byte order mark: save it as UTF-8 without one"),
@@ -418,6 +418,7 @@ def fresh():
     words = run(["init", "10", "20.ABC"])
     keys = re.findall("HS_SECKEY 86400 1100 UTF8 ([0-9a-f]{64})$", words.stdout, re.MULTILINE)
     text = run(["tenants"], words.stdout).stdout
+    yield "a text's first line, which holds of words and digits", text.startswith("# A tenants text. hdl tenants < WORDS > publishers.tenants writes values in words as digits; then:")
     with servers.serving(lambda *ports: text.replace(" 2641\n", " %d\n" % ports[0]).replace(" 2642\n", " %d\n" % ports[1]).encode(), 2) as ports:
         for prefix, secret, port in zip(("10", "20.abc"), keys, ports):
             create = ["create", prefix + "/a", "100 HS_ADMIN 86400 1110 ADMIN 300:111111111111:0.NA/" + prefix, "--key", "300:0.NA/" + prefix]
@@ -660,7 +661,7 @@ def inputs():
     os.close(ours)
     os.close(theirs)
     done = run(["export"], "publisher acme 4 2641\nprefix 10 acme\n")
-    said = ("hdl: 0 values written, 0 keys left out, 0 that no row says\n"
+    said = ("hdl: 0 values written, 0 keys left out, 0 that a CSV row can't express\n"
             "hdl: the text has no value in digits: `handled export` makes such a text of a table, and `hdl tenants` of words\n")
     yield "an export of no values", (done.returncode, done.stderr) == (0, said)
 

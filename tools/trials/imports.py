@@ -119,6 +119,8 @@ def whole(port):
     values = [url(1, b"https://example.org/a,b", 60), wire.value(2, b"TITLE", b"a; b", OPEN, 3600), administrator()]
     yield "a spreadsheet's file", run(port, excel, more=["--ttl", "3600"]) == (0, "1 created, 0 there already, 0 failed\n", "") and are_there(port, {b"10/excel": values})
     yield "a TTL for all", run(port, b"handle,type,data\n10/ttl,URL,a\n", more=["--ttl", "0"]) == (0, "1 created, 0 there already, 0 failed\n", "") and are_there(port, {b"10/ttl": [url(1, b"a", 0), administrator()]})
+    near = "line 2: 10/near: the type is Url, not URL: no browser is led there\n1 created, 0 there already, 0 failed\n"
+    yield "a type that is nearly URL", run(port, b"handle,type,data\n10/near,Url,https://example.org/\n") == (0, near, "")
     yield "the header alone", run(port, b"handle,type,data,ttl\n") == (0, "0 created, 0 there already, 0 failed\n", "")
 
 
@@ -143,7 +145,7 @@ SPACE = "the data begins or ends with a space: take it out"
 MANY_VALUES = "the handle has more than 256 values: create it with some, and add the others with `hdl batch`"
 # Of a faulty handle: its rows, and which of them is told with which words.
 FAULTS = (
-    (["10/f1,1,URL,https://example.org/,x,1110"], 0, "the TTL isn't a number"),
+    (["10/f1,1,URL,https://example.org/,99999999999,1110"], 0, "the TTL isn't a whole number from 0 to 4294967295"),
     (["10/f2,0,URL,https://example.org/,1,1110"], 0, "the value's index is 0"),
     (["10/f3,one,URL,https://example.org/,1,1110"], 0, "the index isn't a number"),
     (["10/f4,1,two words,https://example.org/,1,1110"], 0, "the type is empty, or has a space or other than graphic ASCII characters"),
@@ -163,9 +165,9 @@ FAULTS = (
     (["10/f16,1,HS_SECKEY,a secret,1,1100"], 0, "an HS_SECKEY value is refused in a CSV file: create it with `hdl batch`"),
     (["10,1,URL,https://example.org/,1,1110"], 0, "the name has no slash"),
     ([",1,URL,https://example.org/,1,1110"], 0, "the row has no handle"),
-    (["10/\x1b[2J,1,URL,https://example.org/,x,1110"], 0, "the TTL isn't a number"),
+    (["10/\x1b[2J,1,URL,https://example.org/,x,1110"], 0, "the TTL isn't a whole number from 0 to 4294967295"),
     # the rows of one handle: none of them is imported
-    (["10/f20,1,URL,https://example.org/,1,1110", "10/f20,2,URL,https://example.org/,x,1110"], 1, "the TTL isn't a number"),
+    (["10/f20,1,URL,https://example.org/,1,1110", "10/f20,2,URL,https://example.org/,x,1110"], 1, "the TTL isn't a whole number from 0 to 4294967295"),
     (["10/f21,1,URL,https://example.org/,1,1110", "10/f21,1,URL,https://example.org/,1,1110"], 0, "two rows of the handle have the same index"),
     (["10/f22,%d,URL,a,1,1110" % index for index in range(1, 257)], 0, MANY_VALUES),
     (["10/f23,%d,URL,%s,1,1110" % (index, "x" * 30000) for index in (1, 2, 3)], 0, "the request has more than 65536 octets"),
@@ -226,7 +228,7 @@ def unsent(port):
     yield "no server", (status, out) == (3, "0 created, 0 there already, 0 failed\n") and bool(re.fullmatch(r"hdl: 127\.0\.0\.1:\d+: nothing listens there: .*; start again with the same file: .*\n", err))
     yield "a dry run", run(port, WHOLE, more=["--dry-run"], secret="") == (0, "4 could be created, 0 failed; nothing was sent\n", "")
     faulty = b"handle,type,data,ttl\n10/a,URL,a,x\n10/b,URL,b,1\n"
-    yield "a dry run of faults", run(port, faulty, more=["--dry-run"]) == (1, "line 2: 10/a: the TTL isn't a number\n1 could be created, 1 failed; nothing was sent\n", "")
+    yield "a dry run of faults", run(port, faulty, more=["--dry-run"]) == (1, "line 2: 10/a: the TTL isn't a whole number from 0 to 4294967295\n1 could be created, 1 failed; nothing was sent\n", "")
     yield "a dry run of a faulty header", run(port, b"handle\n", more=["--dry-run"]) == (2, "", COLUMN % "type")
 
 
@@ -477,12 +479,12 @@ def exports(port):
     """What is exported is read back as the same values, and no key is among it unless keys are asked for."""
     text = tenants(port) + wire.text(wire.value_line(handle, value) for handle, values in EXPORTED.items() for value in values)
     status, rows, err = hdl(None, "export", "--csv", given=text)
-    yield "an export", (status, err) == (0, "hdl: 6 values written, 1 keys left out, 0 that no row says\n") and len(rows.splitlines()) == 7
+    yield "an export", (status, err) == (0, "hdl: 6 values written, 1 keys left out, 0 that a CSV row can't express\n") and len(rows.splitlines()) == 7
     yield "an export that is read back", run(port, rows.encode(), more=["--update"])[::2] == (0, "") and are_there(port, EXPORTED)
     yield "keys, if they are asked for", SECRET in hdl(None, "export", "--keys", given=text)[1]
     text += wire.text([wire.value_line(b"10/e-3", UNSAID)])
     status, rows, err = hdl(None, "export", given=text)
-    yield "a value that no row says", (status, err.splitlines()[0]) == (1, "hdl: 10/e-3: no row of a CSV file says the value with index 9: --json does") and len(rows.splitlines()) == 7
+    yield "a value that no row can express", (status, err.splitlines()[0]) == (1, "hdl: 10/e-3: no row of a CSV file says the value with index 9: --json does") and len(rows.splitlines()) == 7
     status, objects, err = hdl(None, "export", "--json", given=text)
     found = [json.loads(line) for line in objects.splitlines()]
     wanted = [{"handle": "10/e-1", "index": 2, "type": "TITLE", "format": "UTF8", "data": 'Of "quotes" \u0416', "ttl": 0, "permissions": "1100"},

@@ -231,7 +231,7 @@ pub fn export_values(rt: &HostRuntime, table: ExportFormat, shows_keys: bool) ->
                 unsaid,
             } = counts;
             let _ = eprintln!(rt;
-                "hdl: {written} values written, {keys} keys left out, {unsaid} that no row says"
+                "hdl: {written} values written, {keys} keys left out, {unsaid} that a CSV row can't express"
             );
             report_none(rt, counts);
             ExitStatus::of_failures(unsaid)

@@ -161,8 +161,8 @@ fn push_publisher<R: RandomSource + AllocGlobal>(
 
 /// What stands before the publishers.
 const HEAD: &str = "\
-    # A tenants text with its values in words: hdl tenants < THIS > publishers.tenants, then handled serve < publishers.tenants.\n\
-    # It holds secrets (the last word of each line HS_SECKEY): only the user who starts the server may read it.\n\
+    # A tenants text. hdl tenants < WORDS > publishers.tenants writes values in words as digits; then: handled serve < publishers.tenants.\n\
+    # It holds secrets (the values of type HS_SECKEY): only the user who starts the server may read it.\n\
     #\n\
     # publisher NAME LANES PORT: the last lane serves datagrams. With four lanes or more, the one before it serves many connections; each other lane serves one.\n\
     # prefix PREFIX NAME: who answers for the handles of the prefix.\n\

@@ -14,7 +14,7 @@ pub enum LineFault {
     Index,
     #[error("the type is empty, or has a space or other than graphic ASCII characters")]
     Type,
-    #[error("the TTL isn't a number")]
+    #[error("the TTL isn't a whole number from 0 to 4294967295")]
     Ttl,
     #[error("the permissions aren't four digits 0 or 1")]
     Permissions,

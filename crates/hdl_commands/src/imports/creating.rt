@@ -24,16 +24,27 @@ pub(crate) struct Creations<'r> {
     pub found: Vec<usize>,
 }
 
+/// Octets as they are printed. Without memory for it they are missing from the line.
+fn shown(alloc: Global, octets: &[u8]) -> String {
+    printed_octets(alloc, octets).unwrap_or_else(|_| String::new(alloc))
+}
+
 impl Faults for Creations<'_> {
     fn note_fault(&mut self, line: usize, handle: &[u8], fault: ArgumentFault) {
-        let alloc = self.rt.alloc();
-        // without memory for it the handle is missing from the line
-        let handle = printed_octets(alloc, handle).unwrap_or_else(|_| String::new(alloc));
+        let handle = shown(self.rt.alloc(), handle);
         let _ = println!(self.rt; "line {line}: {handle}: {fault}");
     }
 
     fn left_out(&mut self) {
         self.counts.fail();
+    }
+
+    fn note_type(&mut self, line: usize, handle: &[u8], kind: &[u8]) {
+        let handle = shown(self.rt.alloc(), handle);
+        let kind = shown(self.rt.alloc(), kind);
+        let _ = println!(self.rt;
+            "line {line}: {handle}: the type is {kind}, not URL: no browser is led there"
+        );
     }
 }
 

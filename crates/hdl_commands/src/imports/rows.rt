@@ -11,7 +11,7 @@ use crate::imports::creation::creation_task;
 use crate::imports::row::value_in_row;
 use csv::ByteRecord;
 use hdl_client::Task;
-use hdl_value::{RawRef, Value, Wire};
+use hdl_value::{RawRef, URL, Value, Wire};
 use hdl_value_lines::{LineFault, cut_at};
 use std::alloc::{AllocError, Global};
 use std::mem;
@@ -22,13 +22,16 @@ const FIRST_PART: usize = 1;
 /// How many are asked for at a time after that.
 const PART: usize = 1000;
 
-/// Is informed of what isn't imported of a file.
+/// Is informed of what isn't imported of a file, or may not be meant so.
 pub(crate) trait Faults {
     /// This line, a row of this handle, is at fault.
     fn note_fault(&mut self, line: usize, handle: &[u8], fault: ArgumentFault);
 
     /// One more handle isn't created.
     fn left_out(&mut self);
+
+    /// The row at this line, of this handle, has a type that is URL but for capital letters.
+    fn note_type(&mut self, line: usize, handle: &[u8], kind: &[u8]);
 }
 
 /// What is wrong with data that is no text on one line.
@@ -305,7 +308,12 @@ impl<'t> HandleRows<'t> {
             self.finish(part, faults);
             self.begin(handle)?;
         }
-        self.push(line, &fields)
+        self.push(line, &fields)?;
+        let kind = fields.get(self.columns.kind).unwrap_or(b"");
+        if kind != URL && kind.eq_ignore_ascii_case(URL) {
+            faults.note_type(self.lines, handle, kind);
+        }
+        Ok(())
     }
 
     /// Tells what is wrong with the last line, and marks the handle that was begun, if one was: it isn't created.
