@@ -30,6 +30,7 @@ mod members;
 mod messages;
 mod opening;
 mod streams;
+mod unread;
 mod watch;
 mod watching;
 

@@ -70,7 +70,9 @@ pub enum PutResult {
 }
 
 /// The keys from this one on, up to the last one that is as long and begins so.
-pub(crate) fn with_last(alloc: Global, last: &[u8]) -> Result<Vec<u8>, AllocError> {
+pub(crate) fn with_last(alloc: Global, last: &[u8]) -> Result<Vec<u8>, AllocError>
+    ensures { IfOk result (λ to. to.items ≡ last.now ++ 0 ∷ []) }
+{
     let mut to = Vec::from_slice(alloc, last)?;
     to.push(0)?;
     Ok(to)

@@ -3,6 +3,7 @@
 use crate::fault::ListFault;
 use crate::list::ChangeList;
 use crate::messages::change_at_key;
+use crate::unread::UnreadKeys;
 use hdl_etcd::{KeyRange, Pair, RangeResponse};
 use hdl_journal_entries::DatedChange;
 use hdl_limits::Octets;
@@ -24,12 +25,11 @@ enum Part {
 pub struct TableLoad {
     revision: Octets,
     part: Part,
-    from: Vec<u8>,
-    to: Vec<u8>,
+    unread: UnreadKeys,
 }
 
-/// The keys of a part, from the first on.
-fn ends_of(alloc: Global, name: &[u8], part: Part) -> Result<(Vec<u8>, Vec<u8>), AllocError> {
+/// The keys of a part.
+fn keys_of(alloc: Global, name: &[u8], part: Part) -> Result<UnreadKeys, AllocError> {
     let (first, last) = match part {
         Part::Handles => ("/h/", "/h0"),
         Part::Values => ("/v/", "/v0"),
@@ -38,17 +38,7 @@ fn ends_of(alloc: Global, name: &[u8], part: Part) -> Result<(Vec<u8>, Vec<u8>),
     from.extend_from_slice(first.as_bytes())?;
     let mut to = Vec::from_slice(alloc, name)?;
     to.extend_from_slice(last.as_bytes())?;
-    Ok((from, to))
-}
-
-/// The key behind the last of a page.
-fn behind_last(alloc: Global, pairs: &[Pair]) -> Result<Option<Vec<u8>>, AllocError> {
-    let Some(last) = pairs.last() else {
-        return Ok(None);
-    };
-    let mut from = Vec::from_slice(alloc, last.key.as_slice())?;
-    from.push(0)?;
-    Ok(Some(from))
+    Ok(UnreadKeys::new(from, to))
 }
 
 fn changes_in(alloc: Global, pairs: &[Pair]) -> Result<Vec<DatedChange>, ListFault> {
@@ -68,12 +58,11 @@ impl<R: Net<Stream = TcpStream>> ChangeList<R> {
             ..
         } = self.take_head()?;
         drop(pairs);
-        let (from, to) = ends_of(self.alloc, &self.name, Part::Handles)?;
+        self.members.begin_load();
         Ok(TableLoad {
             revision,
             part: Part::Handles,
-            from,
-            to,
+            unread: keys_of(self.alloc, &self.name, Part::Handles)?,
         })
     }
 
@@ -82,26 +71,25 @@ impl<R: Net<Stream = TcpStream>> ChangeList<R> {
         &mut self,
         loading: &mut TableLoad,
     ) -> Result<Option<Vec<DatedChange>>, ListFault> {
+        if loading.unread.is_empty() {
+            if loading.part == Part::Values {
+                self.members.end_load();
+                return Ok(None);
+            }
+            loading.unread = keys_of(self.alloc, &self.name, Part::Values)?;
+            loading.part = Part::Values;
+        }
         let Ok(revision) = str::from_utf8(loading.revision.as_slice()) else {
             return Err(ListFault::Layout);
         };
+        let end = loading.unread.end(self.alloc)?;
         let keys = KeyRange {
-            from: &loading.from,
-            to: &loading.to,
+            from: loading.unread.from(),
+            to: &end,
         };
         let page = self.range(&keys, PAGE, revision)?;
         let changes = changes_in(self.alloc, page.pairs.as_slice())?;
-        match behind_last(self.alloc, page.pairs.as_slice())? {
-            Some(from) if page.has_more => loading.from = from,
-            _ if loading.part == Part::Handles => {
-                let (from, to) = ends_of(self.alloc, &self.name, Part::Values)?;
-                loading.part = Part::Values;
-                loading.from = from;
-                loading.to = to;
-            }
-            _ if changes.is_empty() => return Ok(None),
-            _ => loading.from = Vec::from_slice(self.alloc, &loading.to)?,
-        }
+        loading.unread.pass(self.alloc, &page, end)?;
         Ok(Some(changes))
     }
 }

@@ -5,6 +5,13 @@ use crate::watch::Watch;
 use hdl_etcd::{EtcdFault, Exchange, WatchEvents};
 use std::alloc::Global;
 use std::net::{Net, TcpStream};
+use std::time::Duration;
+
+/// How many seconds a member has to take a request, and to send more of its answer.
+const TIMEOUT_SECONDS: u64 = 1;
+
+/// How many seconds it has while a table is loaded: it walks all keys of a range before it answers.
+const LOAD_TIMEOUT_SECONDS: u64 = 10;
 
 /// The members of etcd, by `HOST:PORT` or `unix:PATH`, one of which is asked at a time, and watched.
 #[derive(Drop)]
@@ -14,6 +21,7 @@ pub struct Members<R> {
     addresses: Vec<String>,
     /// The place of the one that is asked next.
     at: usize,
+    timeout: Duration,
     exchange: Option<Exchange<MemberStream>>,
     watch: Option<Watch>,
 }
@@ -25,6 +33,7 @@ impl<R: Net<Stream = TcpStream>> Members<R> {
             alloc,
             addresses,
             at: 0,
+            timeout: Duration::from_secs(TIMEOUT_SECONDS),
             exchange: None,
             watch: None,
         }
@@ -40,7 +49,7 @@ impl<R: Net<Stream = TcpStream>> Members<R> {
         let Some(address) = self.addresses.get(self.at) else {
             return Err(EtcdFault::NoAnswer);
         };
-        Ok(MemberStream::connect(&self.rt, address.as_str())?)
+        Ok(MemberStream::connect(&self.rt, address.as_str(), self.timeout)?)
     }
 
     /// A connection to the member that is asked next.
@@ -49,6 +58,22 @@ impl<R: Net<Stream = TcpStream>> Members<R> {
             return Ok(exchange);
         }
         Exchange::over(self.alloc, self.stream()?)
+    }
+
+    /// Gives each member so long from the next connection on.
+    fn set_timeout(&mut self, seconds: u64) {
+        self.timeout = Duration::from_secs(seconds);
+        self.exchange = None;
+    }
+
+    /// Members have long to answer from now on, since a table is loaded.
+    pub(crate) fn begin_load(&mut self) {
+        self.set_timeout(LOAD_TIMEOUT_SECONDS);
+    }
+
+    /// The table is loaded.
+    pub(crate) fn end_load(&mut self) {
+        self.set_timeout(TIMEOUT_SECONDS);
     }
 
     /// The next member is asked from now on, and the watch is over.

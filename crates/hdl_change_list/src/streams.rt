@@ -6,8 +6,8 @@ use std::net::{Net, TcpStream, ToSocketAddrs};
 use std::os::unix::net::UnixStream;
 use std::time::Duration;
 
-/// How many seconds a member has to take a connection, a request, and to send more of its answer.
-const TIMEOUT_SECONDS: u64 = 1;
+/// How many seconds a member has to take a connection.
+const CONNECT_SECONDS: u64 = 1;
 
 /// What the path of a Unix socket stands behind.
 const UNIX: &str = "unix:";
@@ -19,22 +19,25 @@ pub(crate) enum MemberStream {
     Unix(UnixStream),
 }
 
-fn connect_unix<R: Net>(rt: &R, path: &str) -> io::Result<UnixStream> {
-    let patience = Duration::from_secs(TIMEOUT_SECONDS);
+fn connect_unix<R: Net>(rt: &R, path: &str, timeout: Duration) -> io::Result<UnixStream> {
     let stream = UnixStream::connect(rt, path)?;
-    stream.set_read_timeout(Some(patience))?;
-    stream.set_write_timeout(Some(patience))?;
+    stream.set_read_timeout(Some(timeout))?;
+    stream.set_write_timeout(Some(timeout))?;
     Ok(stream)
 }
 
 /// A stream to the first address that takes a connection.
-fn connect_tcp<R: Net<Stream = TcpStream>>(rt: &R, address: &str) -> io::Result<TcpStream> {
-    let patience = Duration::from_secs(TIMEOUT_SECONDS);
+fn connect_tcp<R: Net<Stream = TcpStream>>(
+    rt: &R,
+    address: &str,
+    timeout: Duration,
+) -> io::Result<TcpStream> {
+    let patience = Duration::from_secs(CONNECT_SECONDS);
     for address in address.to_socket_addrs(rt)? {
         if let Ok(stream) = TcpStream::connect_timeout(rt, &address, patience) {
             stream.set_nodelay(true)?;
-            stream.set_read_timeout(Some(patience))?;
-            stream.set_write_timeout(Some(patience))?;
+            stream.set_read_timeout(Some(timeout))?;
+            stream.set_write_timeout(Some(timeout))?;
             return Ok(stream);
         }
     }
@@ -42,14 +45,15 @@ fn connect_tcp<R: Net<Stream = TcpStream>>(rt: &R, address: &str) -> io::Result<
 }
 
 impl MemberStream {
-    /// A stream to the member at `HOST:PORT`, or at `unix:PATH`.
+    /// A stream to the member at `HOST:PORT`, or at `unix:PATH`, which has so long to take a request, and to send more of its answer.
     pub(crate) fn connect<R: Net<Stream = TcpStream>>(
         rt: &R,
         address: &str,
+        timeout: Duration,
     ) -> io::Result<MemberStream> {
         match address.strip_prefix(UNIX) {
-            Some(path) => Ok(MemberStream::Unix(connect_unix(rt, path)?)),
-            None => Ok(MemberStream::Tcp(connect_tcp(rt, address)?)),
+            Some(path) => Ok(MemberStream::Unix(connect_unix(rt, path, timeout)?)),
+            None => Ok(MemberStream::Tcp(connect_tcp(rt, address, timeout)?)),
         }
     }
 
