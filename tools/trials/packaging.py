@@ -311,7 +311,8 @@ def serves():
     with tempfile.TemporaryDirectory() as folder:
         status, = servers.free_ports(1)
         words = in_folder(exec_of("handled.service", "ExecStart"), folder, status)
-        process, ports = servers.serve(servers.example, 2, options=words[2:])
+        # some metrics are of bounds alone
+        process, ports = servers.serve(servers.example, 2, options=[*words[2:], "--bound", "acme=1000,1000000"])
         text = servers.example(*ports)
         yield "handled.service serves", words[:2] == [servers.HANDLED, "serve"]
         yield "its status page", page_of(status, "/health") == ["ok"]
