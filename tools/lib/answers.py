@@ -18,6 +18,7 @@ NEVER = "no-store"
 POLICY = "default-src 'none'; style-src 'unsafe-inline'; img-src 'self'; base-uri 'none'; frame-ancestors 'none'"
 SNIFFED = [("x-content-type-options", "nosniff")]
 WAY = SNIFFED + [("content-type", "text/html; charset=utf-8"), ("content-security-policy", POLICY)]
+VARIES = [("vary", "Accept-Language")]
 PAGE = WAY + [("referrer-policy", "no-referrer")]
 JSON = SNIFFED + [("content-type", "application/json"), ("access-control-allow-origin", "*")]
 TEXT = SNIFFED + [("content-type", "text/plain; charset=utf-8")]
@@ -66,16 +67,17 @@ def fields_of(media, status, kept, body, location=None, methods="GET, HEAD", cit
     return fields
 
 
-def page(status, kept, title, main, cited=None, **how):
-    """A page: what it is called, and all of it from its header on; `cited` is its own address and what its site is called, where it has one."""
-    head, address = HEAD, None
+def page(status, kept, title, main, cited=None, lang="en", varies=True, **how):
+    """A page: what it is called, and all of it from its header on; `cited` is its own address and what its site is called, where it has one; `varies` says whether requests choose its language."""
+    head, address = HEAD.replace('<html lang="en">', '<html lang="%s">' % lang), None
     if cited:
         address, site = cited
         named = (("url", address), ("title", title[:-len(" - " + site)]), ("site_name", site))
         links = '<link rel="canonical" href="%s">\n' % address + "".join('<meta property="og:%s" content="%s">\n' % pair for pair in named)
-        head = HEAD.replace("</title>\n", "</title>\n" + links)
+        head = head.replace("</title>\n", "</title>\n" + links)
     body = head.replace("{title}", title) + main
-    return whole(status, fields_of(PAGE, status, kept, body, cited=address), body, **how)
+    media = VARIES * varies + PAGE
+    return whole(status, fields_of(media, status, kept, body, cited=address), body, **how)
 
 
 def way(kept, location, body, **how):

@@ -48,10 +48,11 @@ BEFORE_CRATE = re.compile(SPAN + r" of (hdl_\w+)")
 LIMIT = re.compile(r"^    ensures \w+ \{ (\w+) ≡ (\d+) \}$", re.MULTILINE)
 INPUT_LIMIT = re.compile(r"^pub const (INPUT_LIMIT): usize = ([\d_]+);$", re.MULTILINE)
 PROMISES = ("docs/PROMISES.md", "docs/CLIENT_PROMISES.md")
-NUMERALS = {"two": "2", "eight": "8", "ten": "10"}
+NUMERALS = {"two": "2", "eight": "8", "ten": "10", "zehn": "10"}
 OPTIONS, LISTENING, LIMITS = "crates/hdl_server_options/src/commands.rt", "crates/hdl_listeners/src/listening.rt", "crates/hdl_limits/src/lib.rt"
 COMMANDS, ARGUMENTS, SITES = "crates/hdl/src/commands.rt", "crates/hdl/src/arguments.rt", "crates/hdl_commands/src/sites.rt"
 PROXY, GATHERING, ADVICE, REASONS = "crates/hdl_web/src/options.rt", "crates/hdl_web/src/change_requests.rt", "crates/hdl_commands/src/advice.rt", "crates/hdl_tenants_check/src/reasons.rt"
+ENGLISH, GERMAN = "crates/hdl_languages/src/english.rt", "crates/hdl_languages/src/german.rt"
 # Where a default or a limit stands in a text that a program prints, and the constant that it is.
 PRINTED = (
     (OPTIONS, r"client waits; (\d+) by default", LISTENING, "idle_seconds"),
@@ -90,7 +91,8 @@ PRINTED = (
     ("crates/hdl_forms/src/forms.rt", r"within (\d+) seconds", GATHERING, "BODY_SECONDS"),
     ("crates/hdl_forms/src/fault.rt", r"at most (\d+) bytes", LIMITS, "DATA_MAX"),
     ("crates/hdl_forms/src/forms.rt", r"at most (\d+) bytes", "crates/hdl_web/src/change_requests.rt", "BODY_MOST"),
-    ("crates/hdl_proxy/src/step.rt", r"beyond (\w+) handles", "crates/hdl_proxy/src/step.rt", "HOPS_MOST"),
+    (ENGLISH, r"beyond (\w+) handles", "crates/hdl_proxy/src/step.rt", "HOPS_MOST"),
+    (GERMAN, r"über (\w+) Handles", "crates/hdl_proxy/src/step.rt", "HOPS_MOST"),
 )
 ROW = re.compile(r"^\| [^|]* \| ([\d,]+) \| `(\w+)` \|$", re.MULTILINE)
 SCRIPTS = ("check", "run", "hdl", "test", "try", ".ci/*")

@@ -1,8 +1,8 @@
 """bounds.py: tries the bounds of publishers, over the proved program crates/handled/out/handled, in memory and over a file.
 
 Up to its bound a publisher creates, adds and modifies; what would take more is answered Busy (code 3) and changes nothing; what is removed or deleted makes room again; the other publisher is
-served as if nothing were. Standard error says once that the bound is reached. Over a file the count is that of the file after a restart. The status page says what a bounded publisher holds. Words that are no bound, and a text that opens with more,
-are refused. Where the system gives the process no more memory, changes are answered Busy and resolutions go on; this case is left out where UNPROVED is set.
+served as if nothing were. Standard error says once that the bound is reached. Over a file the count is that of the file after a restart. The status page says how many handles, values and octets a bounded publisher holds, and the greatest bound limits
+nothing. Words that are no bound, and a text that opens with more, are refused. Where the system gives the process no more memory, changes are answered Busy and resolutions go on; this case is left out where UNPROVED is set.
 
 It takes some five seconds. Its last line is 'N passed, M failed', a case counting one."""
 
@@ -161,28 +161,50 @@ def administrative_handles_count():
     return alike(found, [1, BUSY, 1, 1])
 
 
-def counted():
-    """The status page counts what the bounded publisher holds, at the start and after changes, and says what it may hold; nothing of the other one."""
-    (at,) = servers.free_ports(1)
+def status(at):
+    return ["--status", "127.0.0.1:%d" % at]
 
-    def gauges():
-        with urllib.request.urlopen("http://127.0.0.1:%d/metrics" % at, timeout=10 * servers.SLOWER) as page:
-            lines = page.read().decode().splitlines()
-        return [line for line in lines if line.startswith(("handled_held_", "handled_bound_"))]
 
-    def wanted(values, count):
-        numbers = (("held_values", values), ("bound_values", 7), ("held_octets", count), ("bound_octets", 1 << 40))
-        return ['handled_%s{publisher="acme"} %d' % number for number in numbers]
+def gauges(at):
+    """What the status page at this port says of bounds."""
+    with urllib.request.urlopen("http://127.0.0.1:%d/metrics" % at, timeout=10 * servers.SLOWER) as page:
+        lines = page.read().decode().splitlines()
+    return [line for line in lines if line.startswith(("handled_held_", "handled_bound_"))]
 
-    with served([*bound("acme", 7, 1 << 40), "--status", "127.0.0.1:%d" % at]) as ports:
+
+def gauges_of(most, handles, values, count):
+    """What it should say of a publisher that may hold these values and octets, and holds so much."""
+    numbers = (("held_handles", handles), ("held_values", values), ("bound_values", most[0]), ("held_octets", count), ("bound_octets", most[1]))
+    return ['handled_%s{publisher="acme"} %d' % number for number in numbers]
+
+
+def counted(file):
+    """The status page counts what the bounded publisher holds, at the start, after changes and after a restart, and says what it may hold; nothing of the other one."""
+    most, (first, second) = (7, 1 << 40), servers.free_ports(2)
+    options = [*bound("acme", *most), *file]
+    with served([*options, *status(first)]) as ports:
         acme, bolt = Publisher(ports[0], b"10"), Publisher(ports[1], b"11")
-        found = [gauges()]
+        found = [gauges(first)]
         for write in (lambda: acme.create(b"10/a"), lambda: bolt.create(b"11/a"), lambda: acme.create(b"10/b"), lambda: acme.remove(b"10/b", 1), lambda: acme.delete(b"10/a")):
             write()
-            found.append(gauges())
+            found.append(gauges(first))
+    with served([*options, *status(second)]):
+        found.append(gauges(second))
     two = OPENED + 2 * ONE
     removed = two - ROW - len(b"URL") - len(b"0123456789")
-    return alike(found, [wanted(2, OPENED), wanted(4, OPENED + ONE), wanted(4, OPENED + ONE), wanted(6, two), wanted(5, removed), wanted(3, removed - ONE)])
+    opened, left = (1, 2, OPENED), (2, 3, removed - ONE)
+    held = [opened, (2, 4, OPENED + ONE), (2, 4, OPENED + ONE), (3, 6, two), (3, 5, removed), left, left if file else opened]
+    return alike(found, [gauges_of(most, *numbers) for numbers in held])
+
+
+def unlimited():
+    """The greatest bound is accepted and refuses nothing, and its publisher is counted."""
+    most, (at,), said = ((1 << 64) - 1, (1 << 64) - 1), servers.free_ports(1), []
+    with served([*bound("acme", *most), *status(at)], said) as ports:
+        acme = Publisher(ports[0], b"10")
+        found = [acme.create(b"10/a"), acme.create(b"10/b"), acme.write(wire.ADD, b"10/a", note(2, b"x")), gauges(at)]
+    noted = ROW + len(b"NOTE") + 1
+    return alike(found, [1, 1, 1, gauges_of(most, 3, 7, OPENED + 2 * ONE + noted)]) and alike(said, [])
 
 
 def refused(options):
@@ -244,7 +266,9 @@ def main():
             ("octets in a file", lambda: by_octets(file("octets.db"))),
             ("a restart", after_a_restart),
             ("administrative handles", administrative_handles_count),
-            ("counted", counted),
+            ("counted in memory", lambda: counted([])),
+            ("counted in a file", lambda: counted(file("counted.db"))),
+            ("no limit", unlimited),
             ("bad words", bad_words),
             ("too much to open", too_much_to_open),
         ]

@@ -52,7 +52,7 @@ KEYS_ASKED = [ASKED, answer(DELETE, SECRETS[0]), wire.frame(DELETE_20, 0, 3), an
 KEYS_SAID = ["line 3: DELETE 10/c: 1 success", "line 7: DELETE 20/c: 1 success", "2 succeeded, 0 failed"]
 
 # A batch with a delete among creates, and which requests (RequestId and operation) come before an answer is given.
-VALUE = "1 URL 86400 1110 UTF8 a"
+VALUE = "1 URL 86400 1110 UTF8 https://a/"
 ALONE = "CREATE 10/a\n%s\n\nCREATE 10/d\n%s\n\nDELETE 10/b\n\nCREATE 10/c\n%s\n" % (VALUE, VALUE, VALUE)
 ALONE_ASKED = [[(1, wire.CREATE), (2, wire.CREATE)], [(3, wire.DELETE)], [(4, wire.CREATE)]]
 
@@ -219,8 +219,18 @@ BATCH_LINES = (
     ("REMOVE 1:10/a\n", wire.REMOVE, 403, "authentication failed: the secret isn't that of the key: check the line after AUTHENTICATE"),
     ("DELETE 10/a\n", wire.DELETE, 406, "unable to authenticate: the handle of AUTHENTICATE has no such key: check its index and its handle"),
     ("DELETE 10/a b\n", wire.DELETE, wire.SUCCESS, "success"),
-    ("CREATE 10/a b\n%s\n" % VALUE, wire.CREATE, wire.SUCCESS, "success: a tenants text can't express the space or line feed in the name: `handled export` will leave the handle out"),
+    ("CREATE 10/a b\n%s\n" % VALUE, wire.CREATE, wire.SUCCESS, "success"),
 )
+# What a batch is warned of: a name that no export takes along, and values to which no browser is led. What is refused gets no warning.
+WARNED = "CREATE 10/a b\n%s\n2 URL 86400 1110 UTF8 www.example.org/a\n3 url 86400 1110 UTF8 https://a/\n" % VALUE
+WARNED_SAID = """\
+line 1: CREATE 10/a b: 1 success
+warning: line 1: the name has a space or line feed, and no export takes the handle along: choose a name without one, such as 10/two-words
+warning: line 1: value with index 2: the address begins with neither https:// nor http://, so no browser is led there: write it whole, such as https://example.org/
+warning: line 1: value with index 3: the type is URL in letters of another case, so no browser is led there: write URL
+1 succeeded, 0 failed; warnings: 3
+"""
+WARNED_REFUSED = "line 1: CREATE 10/a b: 101 handle already exists: change it by `hdl modify` or `hdl add`\n0 succeeded, 1 failed\nfailed: line 1\n"
 
 # A batch that writes a key, and one whose handle would drive a terminal.
 KEY_BATCH = "CREATE 10/k\n%s\n" % KEY_LINE
@@ -233,7 +243,7 @@ CONTROL_SAID = ["line 1: RESOLVE 10/\\u{1b}[2J: 100 handle not found", "0 succee
 SERVERS = (
     ("it is done", [DONE], 0, ""),
     ("another code", [wire.frame(reply(wire.DELETE, 302, wire.reference(b"0.NA/10", 0)), 0, 1)], 1, "hdl: 302 service referral: this port doesn't serve the prefix: name its publisher's port by --server"),
-    ("busy", [wire.frame(wire.short_reply(3), 0, 1)], 1, "hdl: 3 server busy: nothing was done: try again; if it stays so, the server's /health says why"),
+    ("busy", [wire.frame(wire.short_reply(3), 0, 1)], 1, "hdl: 3 server busy: nothing was done: try again; if it stays so, the space of this prefix there may be full: ask its operator"),
     ("it closes at once", [], 3, CLOSED + MAYBE),
     ("it closes in the middle of an envelope", [DONE[:11]], 3, CLOSED + MAYBE),
     ("it closes in the middle of a message", [DONE[:-1]], 3, CLOSED + MAYBE),
@@ -611,6 +621,9 @@ def exchanges():
         sent = wire.frame(reply(operation, code, b"" if code == wire.SUCCESS else wire.number(0)), 0, 1)
         done = asked(lambda listener: served(listener, [sent], []), ["batch"], text)
         yield "a line of a batch: " + said, done.stdout.splitlines()[0] == "line 1: %s: %d %s" % (text.splitlines()[0], code, said)
+    for code, body, said in (wire.SUCCESS, b"", WARNED_SAID), (101, wire.number(0), WARNED_REFUSED):
+        done = asked(lambda listener: served(listener, [wire.frame(reply(wire.CREATE, code, body), 0, 1)], []), ["batch"], WARNED)
+        yield "warnings of a batch", (done.returncode, done.stdout, done.stderr) == (int(code != wire.SUCCESS), said, "")
     done = asked(lambda listener: served(listener, [wire.frame(wire.short_reply(3), 0, 1)], []), CREATE)
     yield "a reply without an operation", done.stdout == ";; reply to create 1, session 0: 3 server busy\n"
     done = asked(lambda listener: served(listener, [absent(1)], []), ["batch"], CONTROL_BATCH)
@@ -657,7 +670,7 @@ def inputs():
     os.write(ours, SECRET.encode() + b"\n")
     words = [PROGRAM, "delete", "10/c", "--key", "300:0.NA/10", "--server", "127.0.0.1:1"]
     done = subprocess.run(words, stdin=theirs, env={name: value for name, value in os.environ.items() if name != "HDL_SECRET"}, capture_output=True, check=False, timeout=60 * servers.SLOWER)
-    yield "a secret from a terminal", done.returncode == 3 and done.stderr.startswith(b"hdl: HDL_SECRET isn't set: type the secret of the key, and Enter\nhdl: 127.0.0.1:1: ")
+    yield "a secret from a terminal", done.returncode == 3 and done.stderr.startswith(b"hdl: HDL_SECRET isn't set: type the secret of the key, and Enter (it will be visible; HDL_SECRET or a file avoids that)\nhdl: 127.0.0.1:1: ")
     os.close(ours)
     os.close(theirs)
     done = run(["export"], "publisher acme 4 2641\nprefix 10 acme\n")

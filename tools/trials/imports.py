@@ -1,6 +1,6 @@
 """imports.py: imports CSV files by the proved program crates/hdl/out/hdl (`hdl import`, `hdl replace`, `hdl export`) into the program crates/handled/out/handled, and compares what it says, its exit status, and the octets of
 what is resolved afterwards: whole files, each fault of a row told with its line while the others go on, files that are imported again or whose import was killed on the way, updates with what they
-change and leave, URLs that are replaced and brought back, values that are exported and read back, keys that are refused, and a server that goes away. A dry update is asked of a server that counts by their codes the requests that it gets. Its last line is 'N passed, M failed', a case counting one."""
+change and leave, warnings of addresses that lead nowhere, URLs that are replaced and brought back, values that are exported and read back, keys that are refused, and a server that goes away. A dry update is asked of a server that counts by their codes the requests that it gets. Its last line is 'N passed, M failed', a case counting one."""
 
 import contextlib
 import itertools
@@ -118,8 +118,8 @@ def whole(port):
     excel = b"\xef\xbb\xbfHandle;Type;DATA;ttl\r\n10/excel;URL;https://example.org/a,b;60\r\n;;;\r\n10/excel;TITLE;\"a; b\";\r\n;;;\r\n"
     values = [url(1, b"https://example.org/a,b", 60), wire.value(2, b"TITLE", b"a; b", OPEN, 3600), administrator()]
     yield "a spreadsheet's file", run(port, excel, more=["--ttl", "3600"]) == (0, "1 created, 0 there already, 0 failed\n", "") and are_there(port, {b"10/excel": values})
-    yield "a TTL for all", run(port, b"handle,type,data\n10/ttl,URL,a\n", more=["--ttl", "0"]) == (0, "1 created, 0 there already, 0 failed\n", "") and are_there(port, {b"10/ttl": [url(1, b"a", 0), administrator()]})
-    near = "line 2: 10/near: the type is Url, not URL: no browser is led there\n1 created, 0 there already, 0 failed\n"
+    yield "a TTL for all", run(port, b"handle,type,data\n10/ttl,NOTE,a\n", more=["--ttl", "0"]) == (0, "1 created, 0 there already, 0 failed\n", "") and are_there(port, {b"10/ttl": [wire.value(1, b"NOTE", b"a", OPEN, 0), administrator()]})
+    near = "warning: line 2: 10/near: the type is URL in letters of another case, so no browser is led there: write URL\n1 created, 0 there already, 0 failed; warnings: 1\n"
     yield "a type that is nearly URL", run(port, b"handle,type,data\n10/near,Url,https://example.org/\n") == (0, near, "")
     yield "the header alone", run(port, b"handle,type,data,ttl\n") == (0, "0 created, 0 there already, 0 failed\n", "")
 
@@ -128,9 +128,9 @@ def again(port):
     """What is there with its values counts as done, and what is there with others doesn't."""
     yield "the same file", run(port, WHOLE) == (0, "0 created, 4 there already, 0 failed\n", "") and are_there(port, WHOLE_VALUES)
     yield "values that aren't for everybody", run(port, PLACED) == (0, "0 created, 1 there already, 0 failed\n", "")
-    changed = WHOLE.replace(b"archive@", b"other@") + b"\r\nURL,10/later,,86400,https://example.org/later\r\nURL,10/b,,0,https://example.org/b\r\n"
+    changed = WHOLE.replace(b"archive@", b"other@").replace(b'"x, y",0', b'"x, y",1') + b"\r\nURL,10/later,,86400,https://example.org/later\r\n"
     said = ("line 2: 10/a: 101 handle already exists, with other values: --update --dry-run shows them\n"
-            "line 10: 10/b: 101 handle already exists, with other values: --update --dry-run shows them\n1 created, 3 there already, 2 failed\n")
+            "line 5: 10/b: 101 handle already exists, with other values: --update --dry-run shows them\n1 created, 2 there already, 2 failed\n")
     later = {b"10/later": [url(1, b"https://example.org/later"), administrator()]}
     yield "a file that was changed", run(port, changed) == (1, said, "") and are_there(port, {**WHOLE_VALUES, **later})
 
@@ -141,6 +141,7 @@ QUOTE = "a quote isn't closed: put a field with a quote into quotes, and double 
 FIELDS = "the line has more or fewer fields than the header: put a field with a comma or semicolon into quotes"
 RETURN = "the line contains a CR: end lines with LF or CR LF"
 TEXT = "the data isn't text on one line"
+EMPTY = "the data is empty: fill in the field `data`, or create such a value with `hdl batch`"
 SPACE = "the data begins or ends with a space: take it out"
 MANY_VALUES = "the handle has more than 256 values: create it with some, and add the others with `hdl batch`"
 # Of a faulty handle: its rows, and which of them is told with which words.
@@ -151,7 +152,7 @@ FAULTS = (
     (["10/f4,1,two words,https://example.org/,1,1110"], 0, "the type is empty, or has a space or other than graphic ASCII characters"),
     (["10/f5,1,,https://example.org/,1,1110"], 0, "the type is empty, or has a space or other than graphic ASCII characters"),
     (["10/f6,1,URL,https://example.org/,1,111"], 0, "the permissions aren't four digits 0 or 1"),
-    (["10/f7,1,URL,,1,1110"], 0, "the data is empty: create such a value with `hdl batch`"),
+    (["10/f7,1,URL,,1,1110"], 0, EMPTY),
     (["10/f8,1,URL, https://example.org/,1,1110"], 0, SPACE),
     (["10/f24,1,URL,https://example.org/ ,1,1110"], 0, SPACE),
     (["10/f9,1,URL,a\x1b[2J,1,1110"], 0, TEXT),
@@ -169,8 +170,8 @@ FAULTS = (
     # the rows of one handle: none of them is imported
     (["10/f20,1,URL,https://example.org/,1,1110", "10/f20,2,URL,https://example.org/,x,1110"], 1, "the TTL isn't a whole number from 0 to 4294967295"),
     (["10/f21,1,URL,https://example.org/,1,1110", "10/f21,1,URL,https://example.org/,1,1110"], 0, "two rows of the handle have the same index"),
-    (["10/f22,%d,URL,a,1,1110" % index for index in range(1, 257)], 0, MANY_VALUES),
-    (["10/f23,%d,URL,%s,1,1110" % (index, "x" * 30000) for index in (1, 2, 3)], 0, "the request has more than 65536 octets"),
+    (["10/f22,%d,NOTE,a,1,1110" % index for index in range(1, 257)], 0, MANY_VALUES),
+    (["10/f23,%d,NOTE,%s,1,1110" % (index, "x" * 30000) for index in (1, 2, 3)], 0, "the request has more than 65536 octets"),
     # what the service says
     (["20/f,1,URL,https://example.org/,1,1110"], 0, "302 service referral: this port doesn't serve the prefix: name its publisher's port by --server"),
     (["0.NA/10.5,1,URL,https://example.org/,1,1110"], 0,
@@ -199,7 +200,7 @@ def faults(port):
     yield "what is good beside faults", are_there(port, good)
     with client_of(port) as client:
         yield "nothing of what is faulty", all(values_of(client, rows[0].split(",")[0].encode()) is None for rows, _, _ in FAULTS)
-    octets = b"handle,type,data,ttl\n10/\xff,URL,a,1\n10/latin,TITLE,\xfc,1\n"
+    octets = b"handle,type,data,ttl\n10/\xff,NOTE,a,1\n10/latin,TITLE,\xfc,1\n"
     yield "octets that are no UTF-8", run(port, octets) == (1, "line 2: 31302fff: the name is not UTF-8\nline 3: 10/latin: the data isn't UTF-8: save the file as CSV UTF-8\n0 created, 0 there already, 2 failed\n", "")
 
 
@@ -226,19 +227,20 @@ def unsent(port):
     yield "no file", (done.returncode, done.stdout, done.stderr) == (2, "", "hdl: /none/file.csv: the file can't be read: No such file or directory (os error 2): check --csv\n")
     status, out, err = run(port, WHOLE)
     yield "no server", (status, out) == (3, "0 created, 0 there already, 0 failed\n") and bool(re.fullmatch(r"hdl: 127\.0\.0\.1:\d+: nothing listens there: .*; start again with the same file: .*\n", err))
-    yield "a dry run", run(port, WHOLE, more=["--dry-run"], secret="") == (0, "4 could be created, 0 failed; nothing was sent\n", "")
-    faulty = b"handle,type,data,ttl\n10/a,URL,a,x\n10/b,URL,b,1\n"
-    yield "a dry run of faults", run(port, faulty, more=["--dry-run"]) == (1, "line 2: 10/a: the TTL isn't a whole number from 0 to 4294967295\n1 could be created, 1 failed; nothing was sent\n", "")
+    yield "a dry run", run(port, WHOLE, more=["--dry-run"], secret="") == (0, "4 could be created, 0 failed; %s\n" % UNASKED, "")
+    faulty = b"handle,type,data,ttl\n10/a,NOTE,a,x\n10/b,NOTE,b,1\n"
+    yield "a dry run of faults", run(port, faulty, more=["--dry-run"]) == (1, "line 2: 10/a: the TTL isn't a whole number from 0 to 4294967295\n1 could be created, 1 failed; %s\n" % UNASKED, "")
     yield "a dry run of a faulty header", run(port, b"handle\n", more=["--dry-run"]) == (2, "", COLUMN % "type")
 
 
+UNASKED = "nothing was sent, so it isn't known which exist: --update --dry-run asks"
 REFUSED = "hdl: the server refuses the key: check --key and its secret; later rows were not tried\n"
 RIGHTS = "400 not authorized: the key of --key is no administrator of 0.NA/10 who may do this: `hdl resolve 0.NA/10 --type HS_ADMIN` names them; if none is there, see docs/FILE.md, \"If a key is lost\""
 
 
 def keys(port):
     """A key that the service doesn't take ends the import behind its first handle."""
-    lines = ["handle,type,data,ttl"] + ["10/key%d,URL,a,1" % number for number in range(1500)]
+    lines = ["handle,type,data,ttl"] + ["10/key%d,NOTE,a,1" % number for number in range(1500)]
     for name, words, code in (
         ("a wrong secret", {"secret": "wrong"}, "403 authentication failed: the secret isn't that of the key: check HDL_SECRET"),
         ("no such key", {"key": "7:0.NA/10"}, RIGHTS),
@@ -247,7 +249,8 @@ def keys(port):
         told = out.splitlines()
         count = 1 if code.startswith("403") else 1500
         good = told[0] == "line 2: 10/key0: " + code and told[-1] == "0 created, 0 there already, %d failed" % count and len(told) == count + 1
-        yield name, good and (status, err) == (1, REFUSED if count == 1 else "")
+        # a slow program says how far it is
+        yield name, good and (status, re.sub(r"hdl: \d+ of 1500 rows\n", "", err)) == (1, REFUSED if count == 1 else "")
 
 
 READ_ONLY = "hdl: the server takes no changes (--read-only): name the one that does by --server; later %s were not tried\n"
@@ -256,11 +259,11 @@ DENIED = "5 operation denied: %sname the one that does by --server%s\n"
 
 def read_only(port):
     """A server that takes no changes ends an import, an update and a replacement behind the first change."""
-    rows = b"handle,type,data,ttl\n" + b"".join(b"10/denied%d,URL,a,1\n" % number for number in range(1500))
+    rows = b"handle,type,data,ttl\n" + b"".join(b"10/denied%d,NOTE,a,1\n" % number for number in range(1500))
     denied = DENIED % ("a server with --read-only takes no changes: ", ". No server creates or deletes a handle under 0.NA")
     yield "an import", run(port, rows) == (1, "line 2: 10/denied0: " + denied + "0 created, 0 there already, 1 failed\n", READ_ONLY % "rows")
     denied = DENIED % ("this server takes no changes (--read-only): ", "")
-    rows = b"handle,type,data,ttl\n10/same,URL,%s1,1\n10/one,URL,b,1\n10/two,URL,b,1\n" % OLD.encode()
+    rows = b"handle,type,data,ttl\n10/same,URL,%s1,1\n10/one,URL,https://b/,1\n10/two,URL,https://b/,1\n" % OLD.encode()
     yield "an update", update(port, rows) == (1, "line 3: 10/one: " + denied + "0 created, 0 changed, 1 there already, 1 failed\n", READ_ONLY % "rows")
     status, out, err = hdl(port, "replace", "10", OLD, NEW)
     yield "a replacement", (status, out, err) == (1, "10/one: %s0 changed, 0 have no such URL, 1 failed\n" % denied, READ_ONLY % "handles")
@@ -281,10 +284,44 @@ def standby():
 
 def spaces(port):
     """A name with a space is imported, and it is said that no text says it."""
-    said = "line 2: 10/two words: a tenants text can't express the space or line feed in the name: `handled export` will leave the handle out\n"
-    rows = b"handle,type,data,ttl\n10/two words,URL,a,1\n"
-    yield "a dry run of a space", run(port, rows, more=["--dry-run"]) == (0, said + "1 could be created, 0 failed; nothing was sent\n", "")
-    yield "a space", run(port, rows) == (0, said + "1 created, 0 there already, 0 failed\n", "")
+    said = "warning: line 2: 10/two words: the name has a space or line feed, and no export takes the handle along: choose a name without one, such as 10/two-words\n"
+    rows = b"handle,type,data,ttl\n10/two words,NOTE,a,1\n"
+    yield "a dry run of a space", run(port, rows, more=["--dry-run"]) == (0, said + "1 could be created, 0 failed; %s; warnings: 1\n" % UNASKED, "")
+    yield "a space", run(port, rows) == (0, said + "1 created, 0 there already, 0 failed; warnings: 1\n", "")
+
+
+NO_SCHEME = "warning: line %d: %s: the address begins with neither https:// nor http://, so no browser is led there: write it whole, such as https://example.org/\n"
+
+
+def addresses(port):
+    """A URL to which no browser is led is imported, and it is said which row has it; the other schemes that are followed are good, in any letters."""
+    rows = b"handle,type,data\n10/n1,URL,https://example.org/1\n10/n1,URL,www.example.org/n1\n10/n2,URL,HTTP://example.org/\n10/n3,URL,mailto:a@example.org\n10/n4,URL,ftp://example.org/\n10/n5,URL,doi:10.5/a\n10/n6,URL,javascript:1\n10/n7,NOTE,www.example.org\n"
+    said = NO_SCHEME % (3, "10/n1") + NO_SCHEME % (8, "10/n6")
+    yield "a dry run of addresses", run(port, rows, more=["--dry-run"]) == (0, said + "7 could be created, 0 failed; %s; warnings: 2\n" % UNASKED, "")
+    status, out, err = update(port, rows, "--dry-run")
+    yield "a dry update of addresses", (status, err) == (0, "") and "".join(line for line in out.splitlines(True) if line.startswith("warning: ")) == said and out.endswith("\n7 would be created, 0 changed, 0 there already, 0 failed; only questions were sent; warnings: 2\n")
+    yield "addresses without a scheme", run(port, rows) == (0, said + "7 created, 0 there already, 0 failed; warnings: 2\n", "") and are_there(port, {
+        b"10/n1": [url(1, b"https://example.org/1"), url(2, b"www.example.org/n1"), administrator()]})
+    semicolons = b"handle;type;data\n10/n8;URL;www.example.org/n8\n"
+    yield "the same with semicolons", run(port, semicolons) == (0, NO_SCHEME % (2, "10/n8") + "1 created, 0 there already, 0 failed; warnings: 1\n", "")
+    line = "7 URL 60 1110 UTF8 www.example.org/n2"
+    said = NO_SCHEME[:-1].replace("line %d: %s", "value with index 7") + "\n"
+    for command in ("add", "modify"):
+        status, out, err = hdl(port, command, "10/n2", line)
+        yield "hdl " + command, (status, err) == (0, said) and out.endswith("1 success\n")
+    status, _, err = hdl(port, "create", "10/n two", "100 HS_ADMIN 60 1110 ADMIN 300:111111111111:0.NA/10", line, "8 url 60 1110 UTF8 https://example.org/", "9 URL 60 1110 UTF8 https://example.org/")
+    named = "warning: the name has a space or line feed, and no export takes the handle along: choose a name without one, such as 10/two-words\n"
+    yield "hdl create", (status, err) == (0, named + said + "warning: value with index 8: the type is URL in letters of another case, so no browser is led there: write URL\n")
+    yield "a refusal without warnings", hdl(port, "add", "10/n2", line)[2] == "hdl: 201 value already exists: a value with an index that exists is changed by `hdl modify`\n"
+
+
+def apart(port):
+    """Rows of one handle that stand apart are told with both lines, and nothing is sent: nobody listens there."""
+    rows = b"handle,type,data\n10/p,NOTE,1\n\n10/p,NOTE,2\n10/q,NOTE,3\n10/r,NOTE,4\n10/q,NOTE,5\n10/p,NOTE,6\n10/p,NOTE,7\n"
+    said = "line %d: 10/%s: the rows of the handle begin at line %d, and other handles stand between\n"
+    end = "hdl: nothing was sent: put the rows of each handle together, as by sorting the file by the column handle\n"
+    for more in ([], ["--dry-run"], ["--update"], ["--update", "--dry-run"]):
+        yield " ".join(["a handle twice", *more]), run(port, rows, more=more, secret="") == (2, said % (7, "q", 5) + said % (8, "p", 2), end)
 
 
 LONG_LIST = ("hdl: 2 error: more handles than fit into one reply (65,536 octets). The server's operator can list all: `handled copy --table FILE --to COPY`, then "
@@ -375,14 +412,14 @@ def refusals(port):
     before = {b"10/typed": None, b"10/other": [url(1, b"https://example.org/", 60), administrator(100, b"\x00\x01")]}
     with client_of(port) as client:
         before[b"10/typed"] = values_of(client, b"10/typed")
-    yield "another type", update(port, b"handle,type,data\n10/typed,URL,a\n") == (
+    yield "another type", update(port, b"handle,type,data\n10/typed,URL,https://a/\n") == (
         1, "line 2: 10/typed: the value with index 1 has another type: name the indexes in a column index\n0 created, 0 changed, 0 there already, 1 failed\n", "")
-    yield "a key", update(port, b"handle,index,type,data\n10/typed,2,URL,a\n") == (
+    yield "a key", update(port, b"handle,index,type,data\n10/typed,2,URL,https://a/\n") == (
         1, "line 2: 10/typed: the value with index 2 is a key: change it with `hdl batch`\n0 created, 0 changed, 0 there already, 1 failed\n", "")
-    yield "a value that no one reads", update(port, b"handle,index,type,data\n10/hidden,1,URL,a\n") == (1, "line 2: 10/hidden: 201 value already exists: a value with an index that exists is changed by `hdl modify`\n0 created, 0 changed, 0 there already, 1 failed\n", "")
-    rows = b"handle,index,type,data,ttl\n10/other,1,URL,a,60\n10/latest,1,URL,a,60\n10/bad,1,URL,,60\n"
-    said = "line 2: 10/other: 401 access denied\nline 4: 10/bad: the data is empty: create such a value with `hdl batch`\n1 created, 0 changed, 0 there already, 2 failed\n"
-    yield "a key that may not", update(port, rows) == (1, said, "") and are_there(port, {**before, b"10/latest": [url(1, b"a", 60), administrator()]})
+    yield "a value that no one reads", update(port, b"handle,index,type,data\n10/hidden,1,URL,https://a/\n") == (1, "line 2: 10/hidden: 201 value already exists: a value with an index that exists is changed by `hdl modify`\n0 created, 0 changed, 0 there already, 1 failed\n", "")
+    rows = b"handle,index,type,data,ttl\n10/other,1,URL,https://a/,60\n10/latest,1,URL,https://a/,60\n10/bad,1,URL,,60\n"
+    said = "line 2: 10/other: 401 access denied\nline 4: 10/bad: %s\n1 created, 0 changed, 0 there already, 2 failed\n" % EMPTY
+    yield "a key that may not", update(port, rows) == (1, said, "") and are_there(port, {**before, b"10/latest": [url(1, b"https://a/", 60), administrator()]})
     yield "a wrong secret", run(port, b"handle,index,type,data\n10/known,3,NOTE,x\n", secret="wrong", more=["--update"])[0] == 1
 
 
@@ -463,8 +500,32 @@ def replaces(port):
         yield "a wrong secret for a replacement", (status, out) == (1, "") and err.startswith("hdl: no list: 403 authentication failed: the secret isn't that of the key: check HDL_SECRET. A key may list if an HS_ADMIN value")
         yield "nothing to undo, and no file for it", not os.path.exists(unused)
         yield "nor after a replacement of nothing", hdl(port, "replace", "10", NEW + "none", NEW, "--handles", names, "--undo", unused)[0] == 1 and not os.path.exists(unused)
+    slash = "warning: OLD ends with a slash and NEW doesn't, so addresses will be such as https://new.examplereport: write https://new.example/ if that isn't meant\n"
+    for more, end in (["--dry-run"], "0 would be changed, 0 have no such URL, 1 failed; only questions were sent; warnings: 1\n"), ([], "0 changed, 0 have no such URL, 1 failed; warnings: 1\n"):
+        with tempfile.NamedTemporaryFile() as names:
+            names.write(b"10/none\n")
+            names.flush()
+            yield "a slash that is missing", hdl(port, "replace", "10", OLD, NEW[:19], "--handles", names.name, *more) == (1, slash + "10/none: 100 handle not found\n" + end, "")
     yield "nothing to replace", hdl(port, "replace", "10", "", NEW) == (2, "", "hdl: what is replaced is empty: say how the URLs begin\n")
     yield "no prefix", hdl(port, "replace", "10/a", OLD, NEW) == (2, "", "hdl: the prefix isn't one: write it as 10 or 0.NA/10\n")
+
+
+# Beginnings by which an address that is followed becomes one that isn't, and some by which none does.
+LOST = (("https://x.example/", "x.example/"), ("HTTP://x.example/", "www.x.example/"), ("https://x.example/?to=", ""), ("http", "https"), ("https:", "http"), ("https://", "http:/"),
+        ("mailto:", "someone@"), ("h", "x"))
+KEPT_SCHEMES = (("https://x.example/", "http://y.example/"), ("http:", "https:"), ("https", "http"), ("https://doi.org/", "doi:"), ("x.example/", "www.x.example/"), ("x.example/", "https://x.example/"),
+                ("http://", "HTTPS://"), ("ht", "HT"))
+LOSS = ("hdl: with NEW in the place of OLD some addresses would lose their http:// or https://, and no browser would be led there: "
+        "write OLD and NEW with it, such as https://old.example/ and https://new.example/\n")
+
+
+def beginnings(port):
+    """A replacement after which a browser is led nowhere is refused before a secret is read or anything sent: nobody listens there."""
+    for old, new in LOST:
+        yield "from %s to %s" % (old, new), hdl(port, "replace", "10", old, new, secret="") == (2, "", LOSS)
+    for old, new in KEPT_SCHEMES:
+        status, out, err = hdl(port, "replace", "10", old, new)
+        yield "from %s to %s" % (old, new), (status, out) == (3, "") and ": nothing listens there: " in err
 
 
 # A text with values that rows say, one of octets that are no text, and a key.
@@ -504,10 +565,10 @@ def busy():
                     stream.sendall(wire.frame(wire.short_reply(3), request=int.from_bytes(envelope[8:12], "big")))
         thread = threading.Thread(target=serve, daemon=True)
         thread.start()
-        rows = b"handle,type,data,ttl\n" + b"".join(b"10/busy%d,URL,a,1\n" % number for number in range(1500))
+        rows = b"handle,type,data,ttl\n" + b"".join(b"10/busy%d,NOTE,a,1\n" % number for number in range(1500))
         status, out, err = run(listener.getsockname()[1], rows)
         thread.join(10)
-    said = "hdl: the server takes no changes now: its /health says why; later rows were not tried; start again with the same file: handles that exist with these values count as done\n"
+    said = "hdl: the server takes no changes now, or the space of this prefix there is full: ask its operator; later rows were not tried; start again with the same file: handles that exist with these values count as done\n"
     yield "a server that stays busy", (status, got, err) == (1, [wire.CREATE] * 10, said) and out.endswith("\n0 created, 0 there already, 10 failed\n")
 
 
@@ -523,7 +584,7 @@ def slow():
                     stream.sendall(wire.frame(wire.message(operation, b"", wire.SUCCESS), request=int.from_bytes(envelope[8:12], "big")))
         thread = threading.Thread(target=serve, daemon=True)
         thread.start()
-        rows = b"handle,type,data,ttl\n" + b"".join(b"10/slow%d,URL,a,1\n10/slow%d,URL,b,1\n" % (number, number) for number in range(12))
+        rows = b"handle,type,data,ttl\n" + b"".join(b"10/slow%d,NOTE,a,1\n10/slow%d,NOTE,b,1\n" % (number, number) for number in range(12))
         status, out, err = run(listener.getsockname()[1], rows)
         thread.join(10)
     yield "a slow server", (status, out) == (0, "12 created, 0 there already, 0 failed\n") and bool(re.fullmatch(r"(hdl: \d+ of 24 rows\n)+", err))
@@ -549,7 +610,8 @@ def main():
         (nobody,) = servers.free_ports(1)
         # an unproved program takes minutes for so many handles
         large = [] if servers.IS_UNPROVED else killed(port)
-        return servers.tally(itertools.chain(whole(port), again(port), faults(port), updates(port), refusals(port), replaces(port), exports(port), questions(), unsent(nobody), keys(port), spaces(port), standby(), large, slow(), busy(), closed()))
+        return servers.tally(itertools.chain(whole(port), again(port), faults(port), updates(port), refusals(port), replaces(port), exports(port), questions(), unsent(nobody), apart(nobody), beginnings(nobody),
+                                              keys(port), spaces(port), addresses(port), standby(), large, slow(), busy(), closed()))
 
 
 if __name__ == "__main__":

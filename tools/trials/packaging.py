@@ -28,14 +28,17 @@ OWN_METRICS, OWN_LABELS = {"up"}, {"job", "instance"}
 WORDS = {"by", "without", "and", "or", "unless", "on", "ignoring", "bool", "offset"}
 COMMAND = re.compile(r"(?:^|/usr/bin/|exec |`)(handled|hdl) ([a-z]\w*)([^`\n]*)", re.MULTILINE)
 OPTION = re.compile(r"(?<![\w-])--[a-z][a-z-]*")
-# Each alert, and the series by which it fires and doesn't; each one has that value, or so much more, at each of 30 minutes.
+# Each alert, and the series by which it fires and doesn't; each one has that value, or so much more, at each of 30 minutes, or is written as promtool has it.
 ALERTS = (
     ("HandleServerDown", 'up{job="handled"}', "0", "1"),
     ("HandleProxyDown", 'up{job="hdl_proxy"}', "0", "1"),
     ("HandleTableShut", "handled_table_shut", "1", "0"),
+    ("HandleTableShrank", "handled_table_file_bytes", "1000x10 100x20", "1000x10 900x20"),
+    ("HandleClusterDown", "handled_cluster_up", "0", "1"),
     ("HandleTableFailing", "handled_table_failing", "1", "0"),
     ("HandleMemoryShort", "handled_memory_short", "1", "0"),
     ("HandleLogLost", "handled_log_lines_lost_total", "+1", "+0"),
+    ("HandleHistoryLost", "handled_history_lines_lost_total", "+1", "+0"),
     ("HandleChangesSlow", "handled_commit_seconds_sum", "+20", "+1"),
     ("HandleChangesBusy", 'handled_replies_total{publisher="a",operation="other",code="3"}', "+5", "+1"),
     ("HandleBoundNear", 'handled_held_values{publisher="a"}', "950", "800"),
@@ -46,6 +49,8 @@ ALERTS = (
     ("HandleProxyAnswersFail", 'hdl_proxy_answers_total{kind="page",code="502"}', "+20", "+2"),
     ("HandleProxyLogLost", "hdl_proxy_log_lines_lost_total", "+1", "+0"),
 )
+# What no server but one of a cluster tells.
+OF_CLUSTERS = {"handled_cluster_up"}
 # What stands beside each of them.
 ALWAYS = (("handled_commit_seconds_count", "+10"), ('handled_bound_values{publisher="a"}', "1000"), ('hdl_proxy_server_asked_total{server="s"}', "+100"), ('hdl_proxy_answers_total{kind="redirect",code="302"}', "+100"))
 
@@ -236,6 +241,7 @@ def agrees():
 
 # copy-table
 
+TABLE = "a table that is as large as its copies were"
 STUB = """#!/bin/sh
 # copies, and reads by the status that it is given
 case $1 in
@@ -256,7 +262,7 @@ def copied(folder, kept, text=b"", status=0):
 def keeps_copies():
     with tempfile.TemporaryDirectory() as folder:
         os.chmod(front_servers.put(folder, "handled", STUB), 0o755)
-        front_servers.put(folder, "handles.db", "a table")
+        front_servers.put(folder, "handles.db", TABLE)
         kept = os.path.join(folder, "copies")
         os.mkdir(kept)
         for name, days in (("handles-2026-01-01T023000Z.db", 20), ("handles-2026-01-02T023000Z.db", 10), ("other.db", 20), ("unchecked.db", 1)):
@@ -267,10 +273,15 @@ def keeps_copies():
         yield "an old copy is removed, and nothing else", status == 0 and there[0] == "handles-2026-01-02T023000Z.db" and there[2:] == ["other.db"]
         yield "a copy is named by its moment", bool(re.fullmatch(r"handles-20\d\d-\d\d-\d\dT\d{6}Z\.db", there[1]))
         made = os.path.join(kept, there[1])
-        yield "it has the table's octets, for its owner alone", os.stat(made).st_mode & 0o777 == 0o600 and octets_of(made) == b"a table"
+        yield "it has the table's octets, for its owner alone", os.stat(made).st_mode & 0o777 == 0o600 and octets_of(made) == TABLE.encode()
         os.remove(made)
         status, there = copied(folder, kept, status=5)
         yield "an export without some handles is a copy too", status == 0 and len(there) == 3
+        os.utime(os.path.join(kept, "handles-2026-01-02T023000Z.db"), (0, 0))
+        front_servers.put(folder, "handles.db", "lost")
+        time.sleep(1.1)
+        status, there = copied(folder, kept)
+        yield "a copy that is far smaller than the last one removes none", status == 6 and len(there) == 4
 
 
 # The command lines of the units
@@ -311,12 +322,12 @@ def serves():
     with tempfile.TemporaryDirectory() as folder:
         status, = servers.free_ports(1)
         words = in_folder(exec_of("handled.service", "ExecStart"), folder, status)
-        # some metrics are of bounds alone
-        process, ports = servers.serve(servers.example, 2, options=[*words[2:], "--bound", "acme=1000,1000000"])
+        # some metrics are of bounds alone, or of a history
+        process, ports = servers.serve(servers.example, 2, options=[*words[2:], "--bound", "acme=1000,1000000", "--history", folder + "/history"])
         text = servers.example(*ports)
         yield "handled.service serves", words[:2] == [servers.HANDLED, "serve"]
         yield "its status page", page_of(status, "/health") == ["ok"]
-        yield "it has the metrics that are asked of it", asked_of("handled_") <= printed(page_of(status, "/metrics"))
+        yield "it has the metrics that are asked of it", asked_of("handled_") - OF_CLUSTERS <= printed(page_of(status, "/metrics"))
         yield "its log", os.path.exists(folder + "/changes.log")
         kept = os.path.join(folder, "copies")
         os.mkdir(kept)
@@ -365,7 +376,7 @@ def systemd():
 
 
 def series(changes):
-    return [{"series": name, "values": ("0%sx30" if value.startswith("+") else "%s+0x30") % value} for name, value in changes]
+    return [{"series": name, "values": value if "x" in value else ("0%sx30" if value.startswith("+") else "%s+0x30") % value} for name, value in changes]
 
 
 def fires(alert, changes):

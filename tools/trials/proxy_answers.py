@@ -20,6 +20,7 @@ sys.dont_write_bytecode = True
 import openapi
 from lib import answers, repository, servers, wire
 from lib.proxy_cases import ARCHIVE_WAY, A_ONE, A_PAGE, A_THREE, A_TWO, A_WAY, CHAIN, DAY, JSONS, KEPT, MANY, NEVER, NO_URL, OPTIONS, PAGES, PRETTY, SCRIPT_PAGE, TENANTS, WILD_PAGE
+from lib.proxy_german import english_in, in_german
 from lib.proxy_pages import (
     ABSENT, CONTACT, CROWDED, ELSEWHERE, FOLLOW, FORM, FRONT, HIDDEN, ICON, LATER, LOOK, READING, ROBOTS, SITE, SITE_TEXT, UNANSWERED, answered_nowhere, empty, json_refusal, json_text, json_values,
     led_to, meant, nameless, refusal, text, value, values, way, written_on)
@@ -294,6 +295,50 @@ def browsers(behind):
                 yield "JSON, --browser-cache %s" % most, answered(port, "GET /api/handles/10/a") == answers.json(200, KEPT % 3600, json_values("10/a", A_ONE, A_TWO, A_THREE))
 
 
+def in_language(lang, status, kept, location, body, varies=True):
+    """The whole answer in this language: a redirect has none."""
+    if location:
+        return wanted(status, kept, location, body)
+    page = in_german(body) if lang == "de" else body
+    return answers.page(status, kept, *page, lang=lang, varies=varies)
+
+
+# Which language a field `Accept-Language` prefers.
+PREFERRED = (
+    (b"de", "de"), (b"DE", "de"), (b"de-AT", "de"), (b"de-AT,de;q=0.9,en;q=0.5", "de"), (b"en;q=0.3, de;q=0.4", "de"), (b"fr, de;q=0.1", "de"), (b"de;q=0.001", "de"), (b"de ; q=0.7 , en ; q=0.6", "de"),
+    (b"de;q=0.25,en;q=0.249", "de"), (b"de;q=1.000,en;q=0.999", "de"), (b"en;q=0,de;q=0.1", "de"),
+    (b"en", "en"), (b"en-US,en;q=0.9", "en"), (b"en,de;q=0.9", "en"), (b"de,en", "en"), (b"en,de", "en"), (b"*", "en"), (b"de;q=0", "en"), (b"de;q=0.5,*;q=0.8", "en"), (b"de;q=0.5,*", "en"), (b"fr", "en"), (b"den", "en"),
+    (b"d", "en"), (b"", "en"), (b"de;q=x", "en"), (b"nl;q=de", "en"), (b"\xff,de", "en"),
+)
+
+
+def german(behind):
+    """Pages are in the language that the request prefers, or in that of the command line; all else stays as it is."""
+    german_field, english_field = "accept-language: de-DE,de;q=0.9,en;q=0.8\r\n", "accept-language: en\r\n"
+    front = (200, KEPT % 0, None, FRONT)
+    with proxy(behind) as port:
+        for line, *answer in (*PAGES, ("GET /", *front)):
+            came = answered(port, line, german_field)
+            yield line + " in German", came == in_language("de", *answer) and (answer[2] or not english_in(came.decode()))
+        for line, status, kept, body in JSONS:
+            yield line + " as JSON, for who prefers German", answered(port, asked(line, "/api/handles"), german_field) == answers.json(status, kept, body)
+        for field, lang in PREFERRED:
+            came = said(port, b"GET /10/script HTTP/1.1\r\nhost: h\r\naccept-language: %s\r\nconnection: close\r\n\r\n" % field)
+            yield "accept-language: %r" % field, answers.undated(came) == in_language(lang, 200, KEPT % 86400, None, SCRIPT_PAGE)
+        german_page, english_page = (in_language(lang, 200, KEPT % 86400, None, SCRIPT_PAGE) for lang in ("de", "en"))
+        tags = [answers.tag(page.partition(b"\r\n\r\n")[2].decode()) for page in (german_page, english_page)]
+        yield "the tag of the other language's page isn't its own", tags[0] != tags[1] and answered(port, "GET /10/script", german_field + "if-none-match: %s\r\n" % tags[1]) == german_page
+        yield "the tag of a German page", answered(port, "GET /10/script", german_field + "if-none-match: %s\r\n" % tags[0]) == answers.unchanged(german_page)
+    for lang, field in (("de", english_field), ("en", german_field), ("de", ""), ("en", "")):
+        with proxy(behind, "--lang", lang, "--cache", "600") as port:
+            for line, *answer in (*PAGES, ("GET /", *front)):
+                yield "%s, --lang %s %s" % (line, lang, field.strip()), answered(port, line, field) == in_language(lang, *answer, varies=False)
+    with proxy(behind, "--cache", "600") as port:
+        for lang, field in (("en", english_field), ("de", german_field)) * 2:
+            for line, *answer in PAGES:
+                yield "%s in %s, from the cache" % (line, lang), answered(port, line, field) == in_language(lang, *answer)
+
+
 ADDRESS = "https://handles.example.org/"
 # What is pasted at a site of this address, and the path to which it leads.
 OWN = (
@@ -330,6 +375,7 @@ def faulty_addresses():
         (["--server", ":2641=10"], 2, "error: --server :2641=10: " + port),
         (["--server", "h:1", "--standby", "h:handle=10"], 2, "error: --standby h:handle=10: " + port),
         (["--server", "h:1", "--listen", "8080"], 2, "error: --listen 8080: write an IP address with a port, such as 127.0.0.1:8080 or [::1]:8080\n"),
+        (["--server", "h:1", "--lang", "fr"], 2, "error: --lang fr: write en or de, or leave it out\n"),
         (["--server", "h:1", "--site", " "], 2, "error: --site is empty: write the site's name, such as 'Handles of the library', or leave it out\n"),
         (["--server", "h:1", "--contact", "Tom Harbour"], 2,
          "error: --contact Tom Harbour: write a mail address or a URL, such as handles@example.org or https://example.org/contact\n"),
@@ -474,6 +520,7 @@ def main():
             cases += part(port)
         cases += otherwise(behind)
         cases += browsers(behind)
+        cases += german(behind)
         cases += at_own_address(behind)
         cases += of_itself(behind)
     for part in (without_servers, replies, contacts, faulty_addresses, absent_questions):

@@ -6,23 +6,31 @@ some 3 seconds. Its last line is 'N passed, M failed', a case counting one."""
 
 import base64
 import contextlib
+import html
 import html.parser
 import http.client
 import json
 import os
+import subprocess
 import sys
 import tempfile
+import time
 import urllib.parse
 
 # nothing is left beside the tools
 sys.dont_write_bytecode = True
 from lib import repository, servers, wire
+from lib.proxy_german import english_in
 
 PROGRAM = os.environ.get("PROXY", repository.program("hdl_web"))
 SECRET = "never:shown/%25+&\u00fc"
 ADMIN = "300:0.NA/10"
 OWN = {"Sec-Fetch-Site": "same-origin", "Origin": "null"}
+GERMAN = {"Accept-Language": "de"}
+SPACED = "This handle has a space in it. Is that meant?"
 MARKUP = "<b>\"'&\u202e"
+WRONG_SECRET = "The secret isn't that of the key. Is there a space at its end?"
+TOO_OLD = "This form is too old, so nothing was done: it can be sent for an hour, and until the server starts again. Please look at it and send it again."
 OLD, NEW = "https://example.org/old", "https://example.org/new?a=1&b=%22"
 READABLE = wire.ADMIN_READ | wire.ADMIN_WRITE | wire.PUBLIC_READ
 KEPT = wire.ADMIN_READ | wire.ADMIN_WRITE
@@ -50,38 +58,64 @@ def tenants(port):
 
 
 class Page(html.parser.HTMLParser):
-    """The forms of a page, each its address and its fields, and the buttons; the texts that are marked as faults; and the words."""
+    """The forms of a page, each its address and its fields, and the buttons; the texts that are marked as faults; the title, and the words; and the field that a browser focuses, whose fault is an alert."""
 
     def __init__(self, text):
         super().__init__()
         self.forms, self.faults, self.words, self.inside, self.links, self.labels, self.ids = [], {}, [], None, [], set(), set()
+        self.title, self.focus, self.alerts, self.tabs, self.described = "", None, set(), set(), set()
+        self.in_title = False
         self.feed(text)
+        assert all(name in self.ids for name in self.described), "a field is described by what isn't there"
+        assert self.focus is None or self.focus + "-fault" in self.alerts, "a faulty field has no alert"
 
     def handle_starttag(self, tag, attrs):
         told = dict(attrs)
         if "id" in told:
             assert told["id"] not in self.ids, "an id stands twice"
             self.ids.add(told["id"])
+        if "aria-describedby" in told:
+            self.described.add(told["aria-describedby"])
+        if tag == "title":
+            self.in_title = True
         if tag == "form":
+            assert told.get("method") != "post" or "autocomplete" not in told, "a browser keeps nothing of a form"
             self.forms.append((told.get("action"), told.get("method"), {}, []))
         elif tag == "input":
             self.forms[-1][2][told["name"]] = told.get("value", "")
             if told.get("type") != "hidden":
                 assert told["id"] in self.labels, "a field has no label"
+                is_secret = told["name"] in ("key", "secret")
+                assert self.forms[-1][1] != "post" or (told.get("autocomplete") == "off") == is_secret, "a browser keeps what it shouldn't, or not what it should"
+            if "autofocus" in told:
+                assert self.focus is None and told.get("aria-invalid") == "true", "two fields are focused, or a right one"
+                self.focus = told["id"]
         elif tag == "button" and self.forms:
             self.forms[-1][3].append((told.get("name"), told.get("value")))
         elif tag == "a":
             self.links.append(told.get("href"))
+            if told.get("target") == "_blank":
+                assert told["rel"] == "noopener" and told["aria-describedby"]
+                self.tabs.add(told["href"])
         elif tag == "label":
             self.labels.add(told["for"])
-        self.inside = told.get("id") or told.get("role") if tag == "p" and told.get("class") == "fault" else None
+        if tag == "p" and told.get("class") == "fault":
+            self.inside = told.get("id") or told.get("role")
+            if told.get("role") == "alert":
+                self.alerts.add(self.inside)
+        else:
+            self.inside = None
 
     def handle_endtag(self, tag):
         if tag == "p":
             self.inside = None
+        if tag == "title":
+            self.in_title = False
 
     def handle_data(self, data):
-        if self.inside:
+        if self.in_title:
+            self.title += data
+        elif self.inside:
             self.faults[self.inside] = self.faults.get(self.inside, "") + data
         elif data.strip():
             self.words.append(data.strip())
@@ -140,20 +174,24 @@ def changed(one):
     one.get(PATH + "?edit")
     forms = [fields.get("index") for _, _, fields, _ in one.page.forms]
     yield "URLs first, then other texts on one line; a free index", one.status == 200 and is_form_page(one) and forms == ["5", "2", "1", "1"]
+    yield "one value at a time", "Change one value at a time: each button sends only its own field." in one.page.words and one.page.focus is None
     one.send(text=NEW)
     yield "old and new before the change", one.status == 200 and is_form_page(one) and OLD in one.page.words and NEW in one.page.words and one.values() == before
     one.get(PATH + "?edit")
     one.send(text=NEW)
     one.confirm(secret="wrong")
-    yield "a wrong secret", (one.status, one.page.faults) == (403, {"secret-fault": "The secret isn't that of the key."}) and is_form_page(one) and "www-authenticate" not in one.fields
+    yield "a wrong secret", (one.status, one.page.faults) == (403, {"secret-fault": WRONG_SECRET}) and is_form_page(one) and "www-authenticate" not in one.fields and one.page.focus == "secret" and one.page.title.startswith("Not done: Change this value?")
     one.confirm(secret="")
     yield "no secret", (one.status, one.page.faults) == (400, {"secret-fault": "Please type the secret."})
     one.confirm(key="300")
     yield "no key", (one.status, one.page.faults) == (400, {"key-fault": "A key is a number, a colon and a handle, such as 300:0.NA/10."})
     one.confirm(key="301:0.NA/10", secret="other")
     yield "another key", (one.status, one.page.faults) == (403, {"key-fault": "The key is no administrator of this handle, or, for a new one, of the prefix's 0.NA/PREFIX."})
-    one.confirm(key="0.NA/10:300")
+    one.confirm(key=" 0.NA/10:300\t")
     yield "changed", one.status == 200 and "The value is changed" in one.page.words
+    yield "it leads to the values as they are now, to the form, and to another handle", [PATH + "?noredirect&auth", PATH + "?edit", "/?new"] == [link for link in one.page.links if "?" in link]
+    one.get(PATH + "?noredirect&auth")
+    yield "which no browser keeps", one.fields["cache-control"] == "max-age=0" and NEW in one.page.words
     wanted = dict(before)
     wanted[5] = ("URL", NEW, before[5][2], before[5][3])
     yield "that value alone, with its TTL and permissions", one.values() == wanted
@@ -161,10 +199,12 @@ def changed(one):
     yield "it leads to the new address", (one.status, one.fields.get("location")) == (302, NEW)
     one.get(PATH + "?edit")
     one.send(text="javascript:alert(1)")
-    yield "no address", (one.status, one.page.faults) == (400, {"fault-5": "An address begins with https://, http://, ftp://, mailto: or doi:."}) and one.page.forms[0][2]["text"] == "javascript:alert(1)"
+    yield "no address", (one.status, one.page.faults) == (400, {"text-5-fault": "An address begins with https://, http://, ftp://, mailto: or doi:."}) and one.page.forms[0][2]["text"] == "javascript:alert(1)"
+    yield "where typing goes on, and the way back", one.page.focus == "text-5" and one.page.title.startswith("Not done: change 10/<a>") and "?edit" in one.page.links
     one.send(text="a\nb")
-    yield "two lines", one.status == 400 and one.page.faults == {"fault-5": "Please type a text on one line, of at most 32768 bytes."}
-    one.send(text=OLD)
+    yield "two lines", one.status == 400 and one.page.faults == {"text-5-fault": "Please type a text on one line, of at most 32768 bytes."}
+    one.send(text="\u00a0 " + OLD + " \n")
+    yield "spaces around an address are dropped", OLD in one.page.words and one.page.forms[0][2]["text"] == OLD
     one.confirm()
     yield "right after faults", one.values() == before
     one.get(PATH + "?edit")
@@ -175,12 +215,33 @@ def changed(one):
 def added(one):
     one.get(PATH + "?edit")
     one.send(2, type="HS_ADMIN", index="7", text="x")
-    yield "a type of the service's own", one.status == 400 and list(one.page.faults) == ["type-fault"]
+    yield "a type of the service's own", one.status == 400 and list(one.page.faults) == ["type-fault"] and one.page.focus == "type"
+    for name, kind in (("two words", "MAIL ADDRESS"), ("letters of no ASCII", "ADRESSE\u00c4"), ("no type", " ")):
+        one.send(type=kind, index="7", text="x")
+        yield "a type of " + name, (one.status, one.page.faults) == (400, {"type-fault": "The type is empty, or has a space or other than graphic ASCII characters."}) and one.page.forms[0][2]["type"] == kind
+    one.send(type="x" * 256, index="7", text="x")
+    yield "a type that is too long", (one.status, one.page.faults) == (400, {"type-fault": "The type is longer than 255 bytes."})
+    for name, alias in (("no slash", "10"), ("no prefix", "/a"), ("an address", "https://example.org/a")):
+        one.send(type="HS_ALIAS", index="7", text=alias)
+        wanted = "An alias names another handle: a prefix, a slash and a local name, such as 10/b."
+        yield "an alias with " + name, (one.status, one.page.faults) == ((400, {"text-fault": wanted}) if name != "an address" else (200, {}))
+        one.get(PATH + "?edit")
+        one.send(2, type="HS_ALIAS", index="7", text="10")
+    for kind, meant in (("Url", "URL"), ("email", "EMAIL"), ("hs_Alias", "HS_ALIAS"), ("10320/LOC", "10320/loc")):
+        one.send(type=kind, index="7", text="https://example.org/")
+        words = "The type differs from %s in small and capital letters, so it is another type. Is that meant?" % meant
+        yield "a type in other letters: " + kind, one.status == 200 and words in one.page.words
+        one.get(PATH + "?edit")
+        one.send(2, type="EMAIL", index="0", text="x")
+    one.send(type="EMAIL", index="7", text="a@example.org")
+    yield "no warning of a type that is known", one.status == 200 and "differs from" not in one.came[-1]
+    one.get(PATH + "?edit")
+    one.send(2, type="HS_ADMIN", index="7", text="x")
     one.send(type="EMAIL", index="0", text="x")
-    yield "no index", (one.status, one.page.faults) == (400, {"index-fault": "An index is a number from 1 to 4294967295."})
-    one.send(type="EMAIL", index="3", text="archive@example.org")
+    yield "no index", (one.status, one.page.faults) == (400, {"index-fault": "An index is a number from 1 to 4294967295."}) and one.page.focus == "index"
+    one.send(type=" EMAIL ", index=" 3 ", text="archive@example.org")
     one.confirm()
-    yield "an index that a hidden value has", (one.status, one.page.faults) == (409, {"alert": "A value with this index exists already."})
+    yield "an index that a hidden value has", (one.status, one.page.faults) == (409, {"alert": "A value with this index exists already."}) and PATH + "?noredirect&auth" in one.page.links
     one.get(PATH + "?edit")
     one.send(2, type="EMAIL", text="archive@example.org")
     one.confirm()
@@ -197,11 +258,19 @@ def gone(one):
     one.get(PATH + "?edit")
     why = "Withdrawn by its author <i>"
     one.send(3, text=why)
+    other, at = one.page, one.at
     yield "asked before it is gone", "Say that this handle is gone?" in one.page.words
     one.confirm()
+    yield "it is said", "Readers are told that it is gone" in one.page.words
+    one.page, one.at = other, at
+    one.confirm()
+    yield "someone else said so", (one.status, one.page.faults) == (409, {"alert": "Someone already said so, or a value that isn't public has this index."}) and PATH + "?noredirect&auth" in one.page.links
+    one.get(PATH + "?noredirect")
     yield "gone is a value", one.status == 200 and one.values()[1][:2] == ("HS_GONE", why)
     one.get(PATH)
     yield "410, with when and why", one.status == 410 and why in one.page.words and "What this handle named is gone." in one.page.words and "<time datetime=\"20" in one.came[-1] and "?edit" in one.page.links
+    page = one.request("GET", PATH, fields=GERMAN)
+    yield "410 in German", one.status == 410 and all(word in page for word in ('<html lang="de">', "<title>Nicht mehr da: ", "Was dieses Handle benannte, gibt es nicht mehr.", ">Geschrieben am <time")) and not english_in(page)
     one.get(PATH + "?noredirect")
     yield "its values are still shown", one.status == 200 and why in one.page.words
     one.get(PATH + "?edit")
@@ -212,19 +281,37 @@ def gone(one):
     yield "and is there again", (one.status, one.fields.get("location")) == (302, OLD)
 
 
+def german(one):
+    page = one.request("GET", PATH + "?noredirect", fields=GERMAN)
+    yield "a German page leads to the form", '<html lang="de">' in page and "?edit" in one.page.links and "Dieses Handle \u00e4ndern" in one.page.words and one.fields["vary"] == "Accept-Language" and not english_in(page)
+    page = one.request("GET", PATH + "?edit", fields=GERMAN)
+    yield "the form is in English", '<html lang="en">' in page and "vary" not in one.fields and "Change this handle" in one.page.words
+
+
 def created(one):
     one.get("/")
     yield "the front page leads to the form", "/?new" in one.page.links
     one.get("/?new")
     one.send(handle="10", text=NEW)
-    yield "no handle", one.status == 400 and list(one.page.faults) == ["handle-fault"] and one.page.forms[0][2]["text"] == NEW
+    yield "no handle", one.status == 400 and list(one.page.faults) == ["handle-fault"] and one.page.forms[0][2]["text"] == NEW and one.page.focus == "handle"
+    yield "its title, and the way back", one.page.title.startswith("Not done: create a handle") and "/?new" in one.page.links
+    for pasted in ("https://hdl.handle.net/10/b", "HTTP://127.0.0.1/10/b", "hdl:10/b", " doi:10/b"):
+        one.send(handle=pasted, text=NEW)
+        yield "a handle as it is pasted: " + pasted, (one.status, one.page.faults) == (400, {"handle-fault": "Type only the handle, such as 10/a, without an address or hdl: before it."}) and one.page.forms[0][2]["handle"] == pasted
     one.send(handle="10/n\u00fc <new>", text="new")
     yield "no address for a new one", one.status == 400 and list(one.page.faults) == ["text-fault"]
-    one.send(text=NEW)
-    yield "shown before it is created", one.status == 200 and "10/n\u00fc <new>" in one.page.words
+    one.send(handle="10/", text=NEW)
+    yield "a warning of an empty local name", one.status == 200 and "Nothing follows the slash of this handle. Is that meant?" in one.page.words and SPACED not in one.page.words
+    one.get("/?new")
+    one.send(handle="10/n\u00fc <new> ", text=" " + NEW)
+    yield "shown before it is created", one.status == 200 and "10/n\u00fc <new>" in one.page.words and SPACED in one.page.words
+    page, at = one.page, one.at
     one.confirm()
     path = "/" + urllib.parse.quote("10/n\u00fc <new>")
-    yield "created", one.status == 201 and path + "?noredirect" in one.page.links and one.values(path) == {1: ("URL", NEW, 86400, None)}
+    yield "created", one.status == 201 and [path + "?noredirect&auth", path + "?edit", "/?new"] == [link for link in one.page.links if "?" in link] and one.values(path) == {1: ("URL", NEW, 86400, None)}
+    one.page, one.at = page, at
+    one.confirm()
+    yield "a reload after it was created", (one.status, one.page.faults) == (409, {"alert": "This handle is there already. Perhaps the form was sent twice."}) and path + "?noredirect&auth" in one.page.links
     one.get(path)
     yield "it leads on", (one.status, one.fields.get("location")) == (302, NEW)
     one.get(path + "?edit")
@@ -234,7 +321,35 @@ def created(one):
     one.get("/?new")
     one.send(handle="10/n\u00fc <new>", text=NEW)
     one.confirm()
-    yield "it isn't created twice", (one.status, one.page.faults) == (409, {"alert": "This handle is there already."}) and one.values(path)[1][1] == OLD
+    yield "it isn't created twice", (one.status, list(one.page.faults)) == (409, ["alert"]) and one.values(path)[1][1] == OLD
+
+
+def outdated(one):
+    """A form that is too old, or whose token isn't this process's: what was typed is shown again, and can be sent."""
+    before = one.values()
+    one.get(PATH + "?edit")
+    one.send(text=NEW, token="1-" + "0" * 64)
+    yield "a form that is too old", (one.status, one.page.faults) == (403, {"alert": TOO_OLD}) and is_form_page(one) and one.page.forms[0][2]["text"] == NEW and one.page.title.startswith("Not done: ")
+    one.send()
+    yield "can be sent again", one.status == 200 and NEW in one.page.words
+    one.confirm(token="1-" + "0" * 64)
+    yield "the page with the key, too", (one.status, one.page.faults) == (403, {"alert": TOO_OLD}) and NEW in one.page.words and (one.page.forms[0][2]["key"], one.page.forms[0][2]["secret"]) == ("", "") and Browser(one.port).values() == before
+    one.confirm()
+    yield "and then it is done", one.status == 200 and one.values()[5][1] == NEW
+    one.get(PATH + "?edit")
+    one.send(text=OLD)
+    one.confirm()
+    one.get(PATH + "?edit")
+    one.send(2, type="EMAIL", index="9", text="a@example.org", token="")
+    yield "a new value", one.status == 403 and [one.page.forms[0][2][name] for name in ("type", "index", "text")] == ["EMAIL", "9", "a@example.org"]
+    one.send()
+    yield "that is sent again", one.status == 200 and "Add this value?" in one.page.words
+    one.get("/?new")
+    one.send(handle="10/later", text=NEW, token="x")
+    yield "a new handle", (one.status, one.page.faults) == (403, {"alert": TOO_OLD}) and (one.page.forms[0][2]["handle"], one.page.forms[0][2]["text"]) == ("10/later", NEW)
+    one.send()
+    yield "that is sent again too", one.status == 200 and "Create this handle?" in one.page.words
+    yield "nothing else was done", one.values() == before
 
 
 def by_another(one, **value):
@@ -277,7 +392,7 @@ def meanwhile(one):
     one.confirm()
     yield "it changed once more", one.status == 409 and texts() == [OLD, third, NEW]
     one.confirm(secret="wrong")
-    yield "going on needs the secret", (one.status, one.page.faults) == (403, {"secret-fault": "The secret isn't that of the key."})
+    yield "going on needs the secret", (one.status, one.page.faults) == (403, {"secret-fault": WRONG_SECRET})
     one.confirm()
     yield "one may go on", one.status == 200 and there()[5] == ("URL", NEW, 3600, None)
     shown()
@@ -337,7 +452,7 @@ def refused(one):
     for name, token in (("no token", None), ("an empty token", ""), ("another moment", "1"), ("another digest", "0-" + "0" * 64)):
         one.get(PATH + "?edit")
         one.send(text=NEW, token=token)
-        yield name, one.status == 403 and "This form is too old" in one.page.words
+        yield name, (one.status, one.page.faults) == (403, {"alert": TOO_OLD})
     one.get("/?new")
     token = one.page.forms[0][2]["token"]
     one.get(PATH + "?edit")
@@ -346,6 +461,9 @@ def refused(one):
     one.get(PATH + "?edit")
     one.send(task=None, button=0, ttl="x", text=NEW)
     yield "a form that isn't whole", one.status == 400 and "This form isn't whole" in one.page.words
+    one.get(PATH + "?edit")
+    one.send(type="HS_SECKEY", text=NEW)
+    yield "a value of another type than its form's", one.status == 400 and "This form isn't whole" in one.page.words
     one.get(PATH + "?edit")
     one.send(text="x" * 1048576)
     yield "a form that is too large", one.status == 413 and "This form didn't arrive whole" in one.page.words
@@ -356,6 +474,25 @@ def refused(one):
     one.request("PUT", PATH + "?edit", "", OWN)
     yield "another method", one.status == 405
     yield "nothing was changed", one.values() == before
+
+
+def remembered(one):
+    """The form after `changed`, of a proxy that reads the server's history."""
+    for _ in range(100):
+        one.get(PATH + "?edit")
+        if "Its last changes" in one.page.words:
+            break
+        time.sleep(0.1 * servers.SLOWER)
+    last = one.came[-1].partition("Its last changes")[2].partition("</ol>")[0].split("<li>")[1:]
+    yield "the last changes by the history, each with its kind and its key", one.status == 200 and 1 <= len(last) <= 5 and all(ADMIN in change for change in last) and "changed" in last[-1]
+    yield "and the public value before the first one", all(html.escape(text) in last[-1] for text in ("URL", "1", OLD))
+
+
+def unreadable(behind):
+    """A history that isn't there is refused at the start."""
+    (port,) = servers.free_ports(1)
+    done = subprocess.run([PROGRAM, "--listen", "127.0.0.1:%d" % port, "--server", "127.0.0.1:%d" % behind, "--writes", "--history", "/none/history"], capture_output=True, text=True, check=False, timeout=60 * servers.SLOWER)
+    yield "a history that isn't there", done.returncode == 1 and done.stderr.startswith("hdl: --history /none/history: ")
 
 
 def without_the_word(port):
@@ -378,13 +515,14 @@ def proxy(behind, *options):
 
 def main():
     cases = []
-    with tempfile.TemporaryDirectory() as folder, servers.serving(tenants, 1) as (behind,):
-        log = os.path.join(folder, "visits.log")
+    with tempfile.TemporaryDirectory() as folder, servers.serving(tenants, 1, options=["--history", os.path.join(folder, "history")]) as (behind,):
+        log, history = (os.path.join(folder, name) for name in ("visits.log", "history"))
+        cases += unreadable(behind)
         with proxy(behind) as port:
             cases += without_the_word(port)
-        with proxy(behind, "--writes", "--log", log) as port:
+        with proxy(behind, "--writes", "--log", log, "--history", history) as port:
             one = Browser(port)
-            for part in (changed, added, gone, created, meanwhile, refused):
+            for part in (changed, remembered, added, gone, german, created, meanwhile, outdated, refused):
                 cases += part(one)
             with open(log, encoding="utf-8") as lines:
                 one.came.append(lines.read())

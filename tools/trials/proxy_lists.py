@@ -14,9 +14,10 @@ import urllib.parse
 # nothing is left beside the tools
 sys.dont_write_bytecode = True
 from lib import servers, wire
-from proxy_forms import ADMIN, KEPT, READABLE, SECRET, Browser, is_form_page, proxy
+from proxy_forms import ADMIN, KEPT, READABLE, SECRET, TOO_OLD, WRONG_SECRET, Browser, is_form_page, proxy
 
 PAGE = 500
+FURTHER = "so the next page may have some"
 ALL, NO_LIST = b"\x0f\xff", b"\x07\xff"
 NO_ADMINISTRATOR = "The key is no administrator of this handle, or, for a new one, of the prefix's 0.NA/PREFIX."
 
@@ -33,10 +34,14 @@ ROWS = {
                    "https://example.org/second"),
     b"10/nowhere": ([(1, b"TITLE", b"It leads nowhere", READABLE)], ""),
     b"10/hidden": ([(1, b"URL", b"https://hidden.example.org/", KEPT)], ""),
+    b"10/gone": ([(1, b"URL", b"https://example.org/gone", READABLE), (2, b"HS_GONE", b"withdrawn", READABLE)], "https://example.org/gone"),
+    b"10/only-gone": ([(1, b"HS_GONE", b"withdrawn", READABLE)], ""),
+    b"10/hidden-gone": ([(1, b"HS_GONE", b"never-shown", KEPT), (2, b"URL", b"https://example.org/there", READABLE)], "https://example.org/there"),
     b"10/key": ([(1, b"HS_SECKEY", b"never-shown", READABLE)], ""),
     **{name.encode(): ([(1, b"URL", url.encode(), READABLE)], url) for name, url in map(leg, range(700))},
     b"20/a": ([(1, b"URL", b"https://example.org/20", READABLE)], "https://example.org/20"),
 }
+GONE = {"10/gone", "10/only-gone"}
 LISTED = {handle.decode(): url for handle, (_, url) in ROWS.items()}
 
 
@@ -52,11 +57,13 @@ def tenants(port):
 
 
 def rows_of(one):
-    """What a page shows: each handle with where it leads. A handle's link leads to its own page of values."""
-    items = re.findall(r'<li><a href="([^"]*)\?noredirect"><bdi>([^<]*)</bdi></a><br><small><bdi>([^<]*)</bdi></small></li>', one.came[-1])
+    """What a page shows: each handle with where it leads. A handle's link leads to its own page of values, in a new tab, which is said; and it is marked if it is gone."""
+    items = re.findall(r'<li><a href="([^"]*)\?noredirect" target="_blank" rel="noopener" aria-describedby="opens"><bdi>([^<]*)</bdi></a>([^<]*)<br><small><bdi>([^<]*)</bdi></small></li>', one.came[-1])
     plain = [tuple(map(unescaped, item)) for item in items]
-    assert all(urllib.parse.unquote(path) == "/" + name for path, name, _ in plain)
-    return [(name, url) for _, name, url in plain]
+    assert all(urllib.parse.unquote(path) == "/" + name for path, name, _, _ in plain)
+    assert all(mark == (" is gone" if name in GONE else "") for _, name, mark, _ in plain)
+    assert not plain or "Each opens in a new tab." in one.page.words
+    return [(name, url) for _, name, _, url in plain]
 
 
 def unescaped(text):
@@ -88,6 +95,14 @@ def wanted(prefix="10", name="", url=""):
 def shown(one):
     whole = list(pages(one))
     yield "a whole list that is longer than a reply", sum(whole, []) == wanted()
+    yield "that it is of a copy stands before it", "Lists are of a copy of the table: what was changed after that copy was made isn't in them." in one.page.words
+    find(one)
+    yield "more may be on a next page", FURTHER in " ".join(one.page.words) and len(one.page.forms[0][3]) == 2
+    find(one, q="second")
+    yield "if there is one", rows_of(one) != [] and FURTHER not in " ".join(one.page.words) and len(one.page.forms[0][3]) == 1
+    find(one, q="no such")
+    yield "and none", FURTHER not in " ".join(one.page.words) and "isn't in them" in " ".join(one.page.words)
+    list(pages(one))
     yield "500 a page", [len(page) for page in whole] == [PAGE, len(wanted()) - PAGE] and one.status == 200 and is_form_page(one)
     for name, url in (("LEG", ""), ("leg 07", ""), ("", "odd"), ("", "example.org/EVEN/ 1"), ("1", "odd"), ("second", "third"), ("  2  leg ", ""), ("<b>", ""), ("", "hidden"), ("no such", "")):
         yield "those with '%s' that lead to '%s'" % (name, url), sum(pages(one, q=name, to=url), []) == wanted("10", name, url)
@@ -101,6 +116,10 @@ def shown(one):
     yield "an address fills in the form", one.status == 200 and is_form_page(one) and rows_of(one) == [] and one.page.forms[0][2]["list"] == "10" and one.page.forms[0][2]["q"] == "leg"
     one.get("/")
     yield "the front page leads there", "/?list" in one.page.links and "/?new" in one.page.links
+    page = one.request("GET", "/", fields={"Accept-Language": "de"})
+    yield "a German front page too", '<html lang="de">' in page and {"/?list", "/?new"} <= set(one.page.links) and {"Ein Handle anlegen", "Handles auflisten"} <= set(one.page.words)
+    page = one.request("GET", "/?list", fields={"Accept-Language": "de"})
+    yield "a list is in English", '<html lang="en">' in page and "vary" not in one.fields and "A list of handles" in one.page.words
 
 
 def refused(one):
@@ -109,7 +128,7 @@ def refused(one):
             ("no prefix", {"prefix": ""}, 400, {"list-fault": "A prefix is what stands before the slash of a handle, such as 10."}),
             ("no key", {"key": "300"}, 400, {"key-fault": "A key is a number, a colon and a handle, such as 300:0.NA/10."}),
             ("no secret", {"secret": ""}, 400, {"secret-fault": "Please type the secret."}),
-            ("a wrong secret", {"secret": "wrong"}, 403, {"secret-fault": "The secret isn't that of the key."}),
+            ("a wrong secret", {"secret": "wrong"}, 403, {"secret-fault": WRONG_SECRET}),
             ("a key that is no administrator", {"key": "301:0.NA/10", "secret": "other"}, 403, {"key-fault": NO_ADMINISTRATOR}),
             ("a key that may do all but list", {"key": "302:0.NA/10", "secret": "third"}, 403, {"key-fault": "The key lacks a permission for this."}),
             ("a key of another prefix", {"prefix": "20"}, 403, {"key-fault": NO_ADMINISTRATOR})):
@@ -124,13 +143,17 @@ def refused(one):
     one.get("/?new")
     other = one.page.forms[0][2]["token"]
     for name, token in (("no token", None), ("an empty token", ""), ("another digest", "0-" + "0" * 64), ("the token of another form", other)):
-        find(one, token=token)
-        yield name, one.status == 403 and is_form_page(one) and "This form is too old" in one.page.words and "/?list" in one.page.links and rows_of(one) == []
+        find(one, token=token, q="leg", to="odd")
+        yield name, (one.status, one.page.faults) == (403, {"alert": TOO_OLD}) and is_form_page(one) and rows_of(one) == [] and one.page.title.startswith("Not done: ")
+        kept = {field: value for field, value in one.page.forms[0][2].items() if field != "token"}
+        yield "what was typed stays, but not the key and its secret: " + name, kept == {"list": "10", "q": "leg", "to": "odd", "key": "", "secret": ""}
+        one.send(key=ADMIN, secret=SECRET)
+        yield "and can be sent again: " + name, one.status == 200 and rows_of(one) == wanted("10", "leg", "odd")
     one.get("/?list")
     token = one.page.forms[0][2]["token"]
     one.get("/10/second?edit")
     one.send(text="https://example.org/", token=token)
-    yield "its token serves no other form", one.status == 403 and "This form is too old" in one.page.words
+    yield "its token serves no other form", (one.status, one.page.faults) == (403, {"alert": TOO_OLD})
     find(one, q="x" * 1048576)
     yield "a form that is too large", one.status == 413 and "This form didn't arrive whole" in one.page.words
     one.get("/?" + urllib.parse.urlencode({"list": "10", "key": ADMIN, "secret": SECRET}))

@@ -425,7 +425,7 @@ BROKEN = (
     ("it closes between challenge and response", (wire.challenge, None), [wire.CREATE, wire.RESPONSE], 502, refused("10/a", SILENT, 2)),
     ("it closes at once", (None,), [wire.CREATE], 502, refused("10/a", SILENT, 2)),
     ("it challenges another request", (lambda asked: wire.challenge(wire.resolution(b"10/b")),), [wire.CREATE], 502, refused("10/a", SILENT, 2)),
-    ("it is busy", (code(3),), [wire.CREATE], 503, refused("10/a", "The server is busy. Please try again.", 3)),
+    ("it is busy", (code(3),), [wire.CREATE], 503, refused("10/a", "The server is busy, or the space of this prefix there is full. Try again; if it stays so, ask its operator.", 3)),
     ("it refuses the second request of a change", (code(101), there, code(1), code(401)), [wire.CREATE, wire.RESOLVE, wire.MODIFY, wire.ADD], 403,
      refused("10/a", LACKS, 401, done=["modify"])),
     ("it closes in the third", (code(101), there, code(1), code(1), None), [wire.CREATE, wire.RESOLVE, wire.MODIFY, wire.ADD, wire.REMOVE], 502,

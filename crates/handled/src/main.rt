@@ -18,6 +18,7 @@ mod notices;
 mod opening;
 mod plan;
 mod ports;
+mod recording;
 mod replaying;
 mod serving;
 mod sharing;

@@ -1,6 +1,6 @@
 //! What a server tells of itself, and the words that a running one takes.
 
-use hdl_host::{Log, Monitoring, REOPEN, STOP};
+use hdl_host::{Log, LogKind, Monitoring, REOPEN, STOP};
 use hdl_programs::{ExitStatus, Fault};
 use hdl_server_options::ServeOptions;
 use std::fs;
@@ -15,9 +15,16 @@ fn try_open_log(rt: &HostRuntime, path: &str, monitoring: &mut Monitoring) -> io
         monitoring.log = Some(Log::to_errors(rt.alloc())?);
         return Ok(());
     }
-    let (log, file) = Log::to_file(rt, path)?;
+    let (log, file) = Log::to_file(rt, LogKind::Log, path)?;
     monitoring.log = Some(log);
-    monitoring.log_file = Some(file);
+    monitoring.log_files.push(file)?;
+    Ok(())
+}
+
+fn try_open_history(rt: &HostRuntime, path: &str, monitoring: &mut Monitoring) -> io::Result<()> {
+    let (history, file) = Log::to_file(rt, LogKind::History, path)?;
+    monitoring.history = Some(history);
+    monitoring.log_files.push(file)?;
     Ok(())
 }
 
@@ -29,7 +36,7 @@ pub fn is_one_file(rt: &HostRuntime, path: &str, other: &str) -> bool {
     }
 }
 
-/// The option that names the file at the path of the log too, if one does.
+/// The option that names the file at this path of a log too, if one does.
 fn option_at(rt: &HostRuntime, log: &str, options: &ServeOptions) -> Option<&'static str> {
     if let Some(file) = &options.table {
         if is_one_file(rt, log, file.path.as_str()) {
@@ -44,18 +51,48 @@ fn option_at(rt: &HostRuntime, log: &str, options: &ServeOptions) -> Option<&'st
     None
 }
 
-/// Says on standard error that lines of the log would be written into the file of the table or of the tenants text. Answers whether that is so.
-pub fn report_log_conflict(rt: &HostRuntime, options: &ServeOptions) -> bool {
-    let Some(log) = &options.monitoring.log else {
-        return false;
-    };
-    let Some(option) = option_at(rt, log.as_str(), options) else {
+/// The option that names the file at the path of the history too, if one does.
+fn option_at_history(
+    rt: &HostRuntime,
+    history: &str,
+    options: &ServeOptions,
+) -> Option<&'static str> {
+    if let Some(log) = &options.monitoring.log {
+        if is_one_file(rt, history, log.as_str()) {
+            return Some("--log");
+        }
+    }
+    option_at(rt, history, options)
+}
+
+/// Says on standard error that the file of this option is another one's too, if it is. Answers whether that is so.
+fn report_conflict(rt: &HostRuntime, name: &str, path: &str, option: Option<&'static str>) -> bool {
+    let Some(option) = option else {
         return false;
     };
     let _ = eprintln!(rt;
-        "error: invalid value '{log}' for '--log <FILE>': this is the file of {option}: name another one\n\nFor more information, try '--help'."
+        "error: invalid value '{path}' for '--{name} <FILE>': this is the file of {option}: name another one\n\nFor more information, try '--help'."
     );
     true
+}
+
+/// Says on standard error that lines of the log or of the history would be written into a file of another option. Answers whether that is so.
+pub fn report_log_conflict(rt: &HostRuntime, options: &ServeOptions) -> bool {
+    if let Some(log) = &options.monitoring.log {
+        if report_conflict(
+            rt,
+            "log",
+            log.as_str(),
+            option_at(rt, log.as_str(), options),
+        ) {
+            return true;
+        }
+    }
+    let Some(history) = &options.monitoring.history else {
+        return false;
+    };
+    let option = option_at_history(rt, history.as_str(), options);
+    report_conflict(rt, "history", history.as_str(), option)
 }
 
 /// Opens the log of changes. What can't be opened is said on standard error.
@@ -65,6 +102,23 @@ pub fn open_log(rt: &HostRuntime, path: &str, monitoring: &mut Monitoring) -> Re
         Err(e) => {
             let _ = eprintln!(rt;
                 "log: cannot open {path}: {e}: name a file in a folder that the program may write to"
+            );
+            Err(Fault::Device)
+        }
+    }
+}
+
+/// Opens the history of changes. What can't be opened is said on standard error.
+pub fn open_history(
+    rt: &HostRuntime,
+    path: &str,
+    monitoring: &mut Monitoring,
+) -> Result<(), Fault> {
+    match try_open_history(rt, path, monitoring) {
+        Ok(()) => Ok(()),
+        Err(e) => {
+            let _ = eprintln!(rt;
+                "history: cannot open {path}: {e}: name a file in a folder that the program may write to"
             );
             Err(Fault::Device)
         }

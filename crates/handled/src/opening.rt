@@ -65,6 +65,13 @@ fn report_missing_note(rt: &HostRuntime) {
     );
 }
 
+/// Says that there was no file at the path, so that an empty table in the place of a lost one is noticed.
+fn report_new(rt: &HostRuntime, path: &str) {
+    let _ = eprintln!(rt;
+        "table: {path} wasn't there: a new table begins with the values of the text"
+    );
+}
+
 /// Moves the log into the file. Where there is no room for that the log stays beside it, which is said.
 fn checkpoint<T: Closing>(rt: &HostRuntime, table: T) -> Result<(), TableRunFault> {
     match table.close(rt, LogNote::Served) {
@@ -89,13 +96,17 @@ pub fn open_plan_table<
     plan: &P,
 ) -> Result<Table<R, TableNotices>, ProgramFault> {
     let path = file.path.as_str();
-    if !plan.config().takes_changes && is_new(rt, path) {
+    let is_first = is_new(rt, path);
+    if !plan.config().takes_changes && is_first {
         // a new table would be empty, and a standby would say that no handle is there
         return Err(ProgramFault::from(missing_fault(rt, path)));
     }
     try_sockets(rt, file, plan.tenants(), plan.config())?;
     let state = log_state(rt, path)?;
     let table = open_once(*machine, rt, file, plan)?;
+    if is_first {
+        report_new(rt, path);
+    }
     match state {
         LogState::Settled => return Ok(table),
         LogState::Unnoted => report_missing_note(rt),

@@ -1,7 +1,7 @@
 //! Which tenants the program serves, and in which setting.
 
 use crate::bounds::bounds_of;
-use crate::monitoring::open_log;
+use crate::monitoring::{open_history, open_log};
 use crate::ports::report_unservable;
 use hdl_core::Tenants;
 use hdl_host::{Health, Limits, Monitoring, ServerConfig, statuses_of};
@@ -70,6 +70,7 @@ fn monitoring_of(
 ) -> Result<Monitoring, Fault> {
     let MonitoringOptions {
         log,
+        history,
         status,
         control,
         proxied,
@@ -81,6 +82,9 @@ fn monitoring_of(
     monitoring.proxied = proxied;
     if let Some(path) = log {
         open_log(rt, path.as_str(), &mut monitoring)?;
+    }
+    if let Some(path) = history {
+        open_history(rt, path.as_str(), &mut monitoring)?;
     }
     Ok(monitoring)
 }

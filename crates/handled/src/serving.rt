@@ -8,10 +8,12 @@ use crate::fault::ProgramFault;
 use crate::guarding::TableGuard;
 use crate::notices::{TableDescription, report_end, startup_line_of};
 use crate::plan::Plan;
+use crate::recording::history_of;
 use hdl_core::Owing;
 use hdl_guardedrows::GuardedRows;
 use hdl_host::{FileWatch, Health, ServerConfig, ShutdownFlag, host_resumed, host_tenants};
 use hdl_programs::{ExitStatus, Fault};
+use hdl_recordedrows::RecordedRows;
 use hdl_tables::{Closing, LogNote, TableRunFault};
 use std::fs::Files;
 use std::net::{Net, TcpListener, TcpStream};
@@ -90,7 +92,9 @@ pub fn serve_memory<
     let guard = guard_of(rt, plan.config(), None)?;
     let (tenants, mut config) = plan.into_parts();
     config.monitoring.startup_line = startup_line;
+    let history = history_of(rt, &mut config)?;
     let rows = GuardedRows::new(rows, guard);
+    let rows = RecordedRows::new(rt.alloc(), rows, history);
     host_tenants(machine, rt.alloc(), rows, tenants, config, &mut output)?;
     report_end(rt, &health, shutdown.is_requested());
     Ok(ExitStatus::Success)
@@ -131,9 +135,11 @@ pub fn serve_table<
     let (tenants, mut config) = plan.into_parts();
     config.monitoring.startup_line = startup_line;
     config.monitoring.file = watch(rt, path)?;
+    let history = history_of(rt, &mut config)?;
     let rows = GuardedRows::new(table, guard);
+    let rows = RecordedRows::new(rt.alloc(), rows, history);
     let rows = host_resumed(machine, rt.alloc(), rows, tenants, config, &mut output)?;
-    close_guarded(rt, rows)?;
+    close_guarded(rt, rows.into_inner())?;
     report_end(rt, &health, shutdown.is_requested());
     Ok(ExitStatus::Success)
 }

@@ -7,12 +7,14 @@ use crate::health_of as new_health;
 use crate::notices::{TableDescription, TableNotices, report_end, startup_line_of};
 use crate::plan::Plan;
 use crate::ports::report_empty;
+use crate::recording::history_of;
 use crate::serving::{health_of, shutdown_of};
 use hdl_cluster::{ClusterParts, ClusterStatus, SharedRows, prepare};
 use hdl_core::Tenants;
 use hdl_guardedrows::GuardedRows;
 use hdl_host::{Sharing, host_shared, read_shared};
 use hdl_programs::{ExitStatus, Fault, tenants_of};
+use hdl_recordedrows::RecordedRows;
 use hdl_server_options::ClusterOptions;
 use hdl_tables::{ExportText, check_publisher};
 use std::alloc::AllocError;
@@ -79,7 +81,9 @@ pub fn serve_cluster<
     let (tenants, mut config) = plan.into_parts();
     config.monitoring.startup_line = startup_line;
     config.monitoring.beside = Some(Arc::try_clone(&standing).map_err(Fault::from)?);
+    let history = history_of(rt, &mut config)?;
     let rows = GuardedRows::new(rows, guard);
+    let rows = RecordedRows::new(rt.alloc(), rows, history);
     let theirs = Arc::try_clone(&standing).map_err(Fault::from)?;
     let sharing = Sharing {
         news,

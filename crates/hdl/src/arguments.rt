@@ -7,6 +7,7 @@ use hdl_commands::{
     ExitStatus, ExportFormat, ImportOptions, ReplaceOptions, RequestOptions, SiteOptions,
     operation_in,
 };
+use hdl_history_commands::{HistoryOptions, UndoOptions};
 use hdl_msg::OpCode;
 use hdl_programs::{arguments_of, usage_status};
 use hdl_value::Wire;
@@ -40,6 +41,10 @@ pub enum Invocation {
     Import(ImportOptions),
     /// URLs that begin otherwise.
     Replace(ReplaceOptions),
+    /// The changes of a handle.
+    History(HistoryOptions),
+    /// The last of them undone.
+    Undo(UndoOptions),
     /// The values of the tenants text on standard input, with those that are keys or without.
     Export {
         table: ExportFormat,
@@ -200,6 +205,19 @@ fn asked_of(alloc: Global, name: &str, matches: &ArgMatches<'_>) -> Result<Invoc
             key: word(alloc, matches, "key")?,
             handles: given(alloc, matches, "handles")?,
             undo: given(alloc, matches, "undo")?,
+            is_dry: matches.get_flag("dry-run"),
+        })),
+        "history" => Ok(Invocation::History(HistoryOptions {
+            handle: word(alloc, matches, "handle")?,
+            file: word(alloc, matches, "file")?,
+            last: given(alloc, matches, "last")?,
+        })),
+        "undo" => Ok(Invocation::Undo(UndoOptions {
+            handle: word(alloc, matches, "handle")?,
+            file: word(alloc, matches, "file")?,
+            server: server_of(alloc, matches)?,
+            wire: wire_of(matches),
+            key: word(alloc, matches, "key")?,
             is_dry: matches.get_flag("dry-run"),
         })),
         "export" => Ok(Invocation::Export {

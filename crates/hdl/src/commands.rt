@@ -210,6 +210,45 @@ fn replace<'a>(alloc: Global) -> Result<Command<'a>, AllocError> {
         .arg(handle_net(alloc))
 }
 
+/// The file that the server writes.
+fn history_file(alloc: Global) -> Arg<'static> {
+    option(
+        alloc,
+        "file",
+        "FILE",
+        "The file that handled serve --history writes",
+    )
+    .required(true)
+}
+
+fn history<'a>(alloc: Global) -> Result<Command<'a>, AllocError> {
+    Command::new(alloc, "history")
+        .about("Shows the changes of a handle, the newest first, each with the values before it")
+        .arg(asked(alloc, "history"))?
+        .arg(history_file(alloc))?
+        .arg(option(alloc, "last", "N", "Shows only the last N changes"))
+}
+
+fn undo<'a>(alloc: Global) -> Result<Command<'a>, AllocError> {
+    Command::new(alloc, "undo")
+        .about(
+            "Undoes the last change of a handle, unless something was changed since, and prints it",
+        )
+        .after_help(
+            "It is a change itself: undoing once more brings back what was undone. The data of keys is in no history: set a key anew.",
+        )
+        .arg(asked(alloc, "undo"))?
+        .arg(history_file(alloc))?
+        .arg(key(alloc).required(true))?
+        .arg(flag(
+            alloc,
+            "dry-run",
+            "Only asks for the values, and prints what would be changed",
+        ))?
+        .arg(server(alloc))?
+        .arg(handle_net(alloc))
+}
+
 fn export<'a>(alloc: Global) -> Result<Command<'a>, AllocError> {
     Command::new(alloc, "export")
         .about(
@@ -405,6 +444,8 @@ pub fn command<'a>(alloc: Global) -> Result<Command<'a>, AllocError> {
         .subcommand(batch(alloc)?)?
         .subcommand(import(alloc)?)?
         .subcommand(replace(alloc)?)?
+        .subcommand(history(alloc)?)?
+        .subcommand(undo(alloc)?)?
         .subcommand(export(alloc)?)?
         .subcommand(explain(alloc)?)?
         .subcommand(script(alloc))?

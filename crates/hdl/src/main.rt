@@ -5,6 +5,8 @@
 //! hdl batch < BATCH                                   many requests of a server, over one connection
 //! hdl import --csv FILE --key INDEX:HANDLE            a handle for the rows of each, over one connection; --update changes those that exist
 //! hdl replace PREFIX OLD NEW --key INDEX:HANDLE       URLs that begin otherwise
+//! hdl history HANDLE --file FILE                      the changes of a handle, from a file of `handled serve --history`
+//! hdl undo HANDLE --file FILE --key INDEX:HANDLE      undoes the last of them
 //! hdl export < TENANTS                                the values of a tenants text as rows of a CSV file, or as JSON
 //! hdl explain [--keys] < LINES                        each line of a script, of what handled prints, or of octets alone, in words
 //! hdl script < WORDS, hdl tenants < WORDS             words to the lines that handled takes
@@ -13,7 +15,7 @@
 //! hdl site --of HOST:PORT                             the site information of a server, in words
 //! ```
 //!
-//! It is the command line of `hdl_commands`, which stands on the codecs that the service stands on: what it sends is in the grammar,
+//! It is the command line of `hdl_commands` and `hdl_history_commands`, which stands on the codecs that the service stands on: what it sends is in the grammar,
 //! and what it shows is what came. `./hdl proxy` is a program of its own, `hdl_web`.
 #![tactic(auto)]
 
@@ -26,6 +28,7 @@ use hdl_commands::{
     random_secret, replace_urls, run_batch_text, run_request, show_site, tenants_faults,
     write_initial_tenants, write_script, write_tenants,
 };
+use hdl_history_commands::{HistoryFault, HistoryOptions, UndoOptions, show_history, undo_change};
 use hdl_value::Wire;
 use std::io::{self, ErrorKind, IsTerminal, Read};
 use std::process::ExitCode;
@@ -134,6 +137,57 @@ fn key(rt: &HostRuntime) -> io::Result<ExitStatus> {
     print_made(rt, line)
 }
 
+/// How a command on a history ends.
+fn status_after(fault: &HistoryFault) -> ExitStatus {
+    match fault {
+        HistoryFault::Handle(_)
+        | HistoryFault::Key
+        | HistoryFault::NoSecret
+        | HistoryFault::Last
+        | HistoryFault::File(_)
+        | HistoryFault::Memory => ExitStatus::Arguments,
+        HistoryFault::Unasked(_) | HistoryFault::Sent(_) => ExitStatus::NoAnswer,
+        HistoryFault::NoChange
+        | HistoryFault::Damaged(_)
+        | HistoryFault::Undo(_)
+        | HistoryFault::Refused(_, _)
+        | HistoryFault::Output => ExitStatus::Failure,
+    }
+}
+
+/// Says on standard error what fault a command on a history has: of the file, of the server, or of its words.
+fn report_history(rt: &HostRuntime, file: &str, server: &str, fault: &HistoryFault) {
+    let _ = match fault {
+        HistoryFault::File(_) | HistoryFault::NoChange | HistoryFault::Damaged(_) => {
+            eprintln!(rt; "hdl: {file}: {fault}")
+        }
+        HistoryFault::Unasked(_) | HistoryFault::Sent(_) | HistoryFault::Refused(_, _) => {
+            eprintln!(rt; "hdl: {server}: {fault}")
+        }
+        _ => eprintln!(rt; "hdl: {fault}"),
+    };
+}
+
+fn history(rt: &HostRuntime, options: &HistoryOptions) -> ExitStatus {
+    match show_history(rt, options) {
+        Ok(()) => ExitStatus::Success,
+        Err(fault) => {
+            report_history(rt, &options.file, "", &fault);
+            status_after(&fault)
+        }
+    }
+}
+
+fn undo(rt: &HostRuntime, options: &UndoOptions) -> ExitStatus {
+    match undo_change(rt, options) {
+        Ok(()) => ExitStatus::Success,
+        Err(fault) => {
+            report_history(rt, &options.file, &options.server, &fault);
+            status_after(&fault)
+        }
+    }
+}
+
 /// Does what the command line asks for, and answers how the program ends.
 fn run(rt: &HostRuntime) -> io::Result<ExitCode> {
     let status = match read_arguments(rt) {
@@ -145,6 +199,8 @@ fn run(rt: &HostRuntime) -> io::Result<ExitCode> {
         Invocation::Batch { server, wire } => batch_all(rt, &server, wire)?,
         Invocation::Import(import) => import_file(rt, &import),
         Invocation::Replace(replacement) => replace_urls(rt, &replacement),
+        Invocation::History(options) => history(rt, &options),
+        Invocation::Undo(options) => undo(rt, &options),
         Invocation::Export { table, shows_keys } => {
             report_reading(rt);
             export_values(rt, table, shows_keys)

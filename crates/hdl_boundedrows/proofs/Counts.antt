@@ -4,16 +4,18 @@ use Rattle.std.specs.List.{AllByRecursion}
 use Rattle.std.proofs.lemmas.Bool.Decides.{nat_tests}
 use Rattle.hdl_boundedrows.specs.declared.account.Account.{Account}
 use Rattle.hdl_boundedrows.specs.declared.account.CountChange.{CountChange}
-use Rattle.hdl_boundedrows.specs.Amount.{Measure, in_values, in_octets, moved_count, may_become}
+use Rattle.hdl_boundedrows.specs.Amount.{Measure, in_handles, in_values, in_octets, moved_count, may_become}
 use Rattle.hdl_limits.specs.Counts.{at_most_u64}
 use Rattle.hdl_boundedrows.specs.Bounded.{has_prefix, is_counted, held_after, may_change, is_permitted, are_permitted, after_change, Holding, holding_of, moved_by, holding_after, IsBelow, IsWithin}
 
 -- the change is this gain and what is given back
 pub record IsChange (c : CountChange) (gain back : Measure → ℕ) : Type 0 where
-  pub gain_values : c.gain.values ≡ at_most_u64 (gain in_values)
-  pub gain_octets : c.gain.octets ≡ at_most_u64 (gain in_octets)
-  pub back_values : c.back.values ≡ at_most_u64 (back in_values)
-  pub back_octets : c.back.octets ≡ at_most_u64 (back in_octets)
+  pub gain_handles : c.gain.handles ≡ at_most_u64 (gain in_handles)
+  pub gain_values : c.gain.amount.values ≡ at_most_u64 (gain in_values)
+  pub gain_octets : c.gain.amount.octets ≡ at_most_u64 (gain in_octets)
+  pub back_handles : c.back.handles ≡ at_most_u64 (back in_handles)
+  pub back_values : c.back.amount.values ≡ at_most_u64 (back in_values)
+  pub back_octets : c.back.amount.octets ≡ at_most_u64 (back in_octets)
 
 both : (a b : Bool) → (a && b) ≡ true → (a ≡ true) × (b ≡ true)
 both true b is = (refl, is)
@@ -35,8 +37,9 @@ module _ (p : List ℕ) (c : CountChange) (gain back : Measure → ℕ) (is : Is
         roots = a.bound.roots.items;
         most_values = a.bound.most.values;
         most_octets = a.bound.most.octets;
-        values = moved_count a.held.values (is.gain_values i) (is.back_values i);
-        octets = moved_count a.held.octets (is.gain_octets i) (is.back_octets i);
+        handles = moved_count a.held.handles (is.gain_handles i) (is.back_handles i);
+        values = moved_count a.held.amount.values (is.gain_values i) (is.back_values i);
+        octets = moved_count a.held.amount.octets (is.gain_octets i) (is.back_octets i);
       }
       by_test false = refl
 
@@ -49,9 +52,9 @@ module _ (p : List ℕ) (c : CountChange) (gain back : Measure → ℕ) (is : Is
     where
       by_test : (b : Bool) → b ≡ true → (not b || may_change a c) ≡ true → IsBelow (holding_of a) (cond b (moved_by gain back (holding_of a)) (holding_of a))
       by_test true _ may =
-          let each = both (may_become a.bound.most.values a.held.values (held_after c a.held).values) (may_become a.bound.most.octets a.held.octets (held_after c a.held).octets) may in (
-            subst (λ n. n ≤ max a.bound.most.values a.held.values) (λ i. moved_count a.held.values (is.gain_values i) (is.back_values i)) (below _ _ _ each.0),
-            subst (λ n. n ≤ max a.bound.most.octets a.held.octets) (λ i. moved_count a.held.octets (is.gain_octets i) (is.back_octets i)) (below _ _ _ each.1),
+          let each = both (may_become a.bound.most.values a.held.amount.values (held_after c a.held).amount.values) (may_become a.bound.most.octets a.held.amount.octets (held_after c a.held).amount.octets) may in (
+            subst (λ n. n ≤ max a.bound.most.values a.held.amount.values) (λ i. moved_count a.held.amount.values (is.gain_values i) (is.back_values i)) (below _ _ _ each.0),
+            subst (λ n. n ≤ max a.bound.most.octets a.held.amount.octets) (λ i. moved_count a.held.amount.octets (is.gain_octets i) (is.back_octets i)) (below _ _ _ each.1),
           )
       by_test false none may = absurd (true≢false (sym none))
 

@@ -1,4 +1,4 @@
--- What handles and their values count: values, and octets.
+-- What handles and their values count: handles, values, and octets.
 use Rattle.std.specs.Prelude.{ℕ, ◌+◌, ◌-◌, List, length, sum_by, Bool, ◌&&◌, ◌||◌, nat_le, nat_lt, ◌==◌, if◌then◌else◌}
 use Rattle.std.specs.Option.{option_map_or}
 use Rattle.hdl_value.specs.declared.references.RawRef.{RawRef}
@@ -11,6 +11,10 @@ use Rattle.hdl_limits.specs.Counts.{at_most_u64}
 pub record Measure : Type 0 where
   pub handle : List ℕ → ℕ
   pub value : Value → ℕ
+
+-- a handle is one, and a value by itself none
+abbrev pub in_handles : Measure
+in_handles = record { handle = λ _. 1; value = λ _. 0 }
 
 -- a value is one, and a handle by itself none
 abbrev pub in_values : Measure

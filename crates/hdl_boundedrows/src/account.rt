@@ -5,7 +5,7 @@ ghost use Rattle.hdl_boundedrows.specs.Amount as spec;
 ghost use Rattle.hdl_boundedrows.specs.Bounded as bounded;
 ghost use Rattle.hdl_boundedrows.specs.Bounded.{is_among, roots_of, with_root, has_prefix, is_counted, are_permitted, after_change, may_change};
 
-use crate::amount::{Amount, handle_amount, values_amount};
+use crate::amount::{Amount, Count, handle_count, values_count};
 use hdl_name::Name;
 use hdl_rows::Refused;
 use hdl_value::Value;
@@ -64,44 +64,44 @@ impl Bound {
         self.roots.iter().any(|root| root.prefix() == prefix)
     }
 
-    /// What the rows of a text count, each handle once.
+    /// The amount of the rows of a text, each handle once.
     pub fn amount_of_rows(
         &self,
         alloc: Global,
         rows: &[(Name, Value)],
     ) -> Result<Amount, AllocError> {
         let mut handles = Vec::new(alloc);
-        let mut sum = Amount::NONE;
+        let mut sum = Count::NONE;
         for row in rows {
             if self.has(row.0.prefix()) {
                 handles.push(row.0.canon())?;
-                sum = sum.plus(values_amount(slice::from_ref(&row.1)));
+                sum = sum.plus(values_count(slice::from_ref(&row.1)));
             }
         }
         handles.sort()?;
         let mut last: Option<&[u8]> = None;
         for handle in handles {
             if last != Some(handle) {
-                sum = sum.plus(handle_amount(handle, &[]));
+                sum = sum.plus(handle_count(handle, &[]));
                 last = Some(handle);
             }
         }
-        Ok(sum)
+        Ok(sum.amount)
     }
 }
 
 /// What a write makes of a count.
 #[derive(Clone, Copy, Drop)]
 pub(crate) struct CountChange {
-    pub(crate) gain: Amount,
-    pub(crate) back: Amount,
+    pub(crate) gain: Count,
+    pub(crate) back: Count,
 }
 
 /// A bound, and what is held.
 #[derive(Drop)]
 pub(crate) struct Account {
     pub(crate) bound: Bound,
-    pub(crate) held: Amount,
+    pub(crate) held: Count,
 }
 
 /// A count once some was given back and some gained. The greatest stays.
@@ -122,14 +122,29 @@ fn may_become(bound: u64, held: u64, next: u64) -> bool
 }
 
 impl Amount {
-    /// What is held after a change.
-    fn after(self, change: CountChange) -> Amount
-        ensures values { result.values ≡ spec.moved_count self.values change.gain.values change.back.values }
-        ensures octets { result.octets ≡ spec.moved_count self.octets change.gain.octets change.back.octets }
+    /// What is held once some was given back and some gained.
+    fn moved(self, gain: Amount, back: Amount) -> Amount
+        ensures values { result.values ≡ spec.moved_count self.values gain.values back.values }
+        ensures octets { result.octets ≡ spec.moved_count self.octets gain.octets back.octets }
     {
         Amount {
-            values: moved_count(self.values, change.gain.values, change.back.values),
-            octets: moved_count(self.octets, change.gain.octets, change.back.octets),
+            values: moved_count(self.values, gain.values, back.values),
+            octets: moved_count(self.octets, gain.octets, back.octets),
+        }
+    }
+}
+
+impl Count {
+    /// What is held after a change.
+    fn after(self, change: CountChange) -> Count
+        ensures handles { result.handles ≡ spec.moved_count self.handles change.gain.handles change.back.handles }
+        ensures values { result.amount.values ≡ spec.moved_count self.amount.values change.gain.amount.values change.back.amount.values }
+        ensures octets { result.amount.octets ≡ spec.moved_count self.amount.octets change.gain.amount.octets change.back.amount.octets }
+    {
+        let CountChange { gain, back } = change;
+        Count {
+            handles: moved_count(self.handles, gain.handles, back.handles),
+            amount: self.amount.moved(gain.amount, back.amount),
         }
     }
 }
@@ -146,9 +161,11 @@ impl Account {
     fn may_take(&self, change: CountChange) -> bool
         ensures { result ≡ may_change self.now change }
     {
-        let next = self.held.after(change);
-        may_become(self.bound.most.values, self.held.values, next.values)
-            && may_become(self.bound.most.octets, self.held.octets, next.octets)
+        let most = self.bound.most;
+        let held = self.held.amount;
+        let next = self.held.after(change).amount;
+        may_become(most.values, held.values, next.values)
+            && may_become(most.octets, held.octets, next.octets)
     }
 
     /// Whether the change of a handle of this prefix is nothing to the publisher, or one that it may make.

@@ -4,7 +4,7 @@ ghost use Rattle.std.specs.Prelude.{◌≡◌, ◌+◌, min, true, false, map, s
 ghost use Rattle.hdl_boundedrows.specs.Bounded as counted;
 ghost use Rattle.hdl_boundedrows.specs.Bounded.{are_permitted, none, holding_after, holding_at_first, IsWithin};
 ghost use Rattle.std.specs.List.{AllByRecursion};
-ghost use Rattle.hdl_boundedrows.specs.Amount.{in_values, in_octets, with_handle, values_at};
+ghost use Rattle.hdl_boundedrows.specs.Amount.{in_handles, in_values, in_octets, with_handle, values_at};
 ghost use Rattle.hdl_limits.specs.Counts.{at_most_u64};
 ghost use Rattle.hdl_name.specs.Name.{canonical, prefix};
 ghost use Rattle.hdl_value.specs.Refs.{place_of};
@@ -13,11 +13,11 @@ ghost use Rattle.hdl_rows.specs.Reads.{reads_after, nothing, of_value, values_oc
 ghost use Rattle.hdl_rows.specs.Table.{most, refusals_after, has, at, values_of, values_in, names_of, HaveTheirIndexes, with_new_handle, with_values, without_values, without_handle, AreDistinct, AreAbsent, ArePresent, indexes};
 
 use crate::account::{Account, Accounts, Bound, CountChange};
-use crate::amount::{Amount, amount_of_indexes, amount_of_replaced, handle_amount, values_amount};
+use crate::amount::{Count, count_of_indexes, count_of_replaced, handle_count, values_count};
 use hdl_limits::Octets;
 use hdl_name::Name;
 use hdl_rows::reads::{found_octets, names_octets, seen_octets, values_octets, with_call};
-use hdl_rows::{Owed, Owing, Refused, Rows};
+use hdl_rows::{Owed, Owing, Provenance, Refused, Rows};
 use hdl_value::{Reference, Value};
 use std::alloc::Global;
 use std::marker::Model;
@@ -28,7 +28,7 @@ pub trait BoundObserver {
     fn note_exceeded(&mut self, place: usize, bound: &Bound);
 
     /// The publisher at this place holds so much now.
-    fn note_held(&mut self, place: usize, held: Amount);
+    fn note_held(&mut self, place: usize, held: Count);
 }
 
 /// A table with a bound for each of some publishers. Contracts see what the table holds, how many calls were refused by it or by a bound,
@@ -85,22 +85,24 @@ fn note_held<A: BoundObserver>(accounts: &Accounts, observer: &mut A, prefix: &[
 }
 
 /// What the administrative handle of a prefix counts.
-fn held_at_root<R: Rows>(rows: &mut R, root: &Name) -> Result<Amount, Refused>
+fn held_at_root<R: Rows>(rows: &mut R, root: &Name) -> Result<Count, Refused>
     ensures unchanged { R.content rows.new ≡ R.content rows.old }
-    ensures values { IfOk result (λ amount. amount.values ≡ at_most_u64 (counted.held_at_root in_values (R.content rows.old) root.now)) }
-    ensures octets { IfOk result (λ amount. amount.octets ≡ at_most_u64 (counted.held_at_root in_octets (R.content rows.old) root.now)) }
+    ensures handles { IfOk result (λ held. held.handles ≡ at_most_u64 (counted.held_at_root in_handles (R.content rows.old) root.now)) }
+    ensures values { IfOk result (λ held. held.amount.values ≡ at_most_u64 (counted.held_at_root in_values (R.content rows.old) root.now)) }
+    ensures octets { IfOk result (λ held. held.amount.octets ≡ at_most_u64 (counted.held_at_root in_octets (R.content rows.old) root.now)) }
 {
     match rows.look(root)? {
-        Some(values) => Ok(handle_amount(root.canon(), &values)),
-        None => Ok(Amount::NONE),
+        Some(values) => Ok(handle_count(root.canon(), &values)),
+        None => Ok(Count::NONE),
     }
 }
 
 /// What the handle with these octets counts, which must be a name in canonical form.
-fn held_at<R: Rows>(alloc: Global, rows: &mut R, handle: &[u8]) -> Result<Amount, Refused>
+fn held_at<R: Rows>(alloc: Global, rows: &mut R, handle: &[u8]) -> Result<Count, Refused>
     ensures unchanged { R.content rows.new ≡ R.content rows.old }
-    ensures values { IfOk result (λ amount. amount.values ≡ at_most_u64 (counted.held_at in_values (R.content rows.old) handle.now)) }
-    ensures octets { IfOk result (λ amount. amount.octets ≡ at_most_u64 (counted.held_at in_octets (R.content rows.old) handle.now)) }
+    ensures handles { IfOk result (λ held. held.handles ≡ at_most_u64 (counted.held_at in_handles (R.content rows.old) handle.now)) }
+    ensures values { IfOk result (λ held. held.amount.values ≡ at_most_u64 (counted.held_at in_values (R.content rows.old) handle.now)) }
+    ensures octets { IfOk result (λ held. held.amount.octets ≡ at_most_u64 (counted.held_at in_octets (R.content rows.old) handle.now)) }
 {
     let Ok(name) = Name::read(alloc, handle) else {
         return Err(Refused);
@@ -109,14 +111,15 @@ fn held_at<R: Rows>(alloc: Global, rows: &mut R, handle: &[u8]) -> Result<Amount
         return Err(Refused);
     }
     let values = rows.values(&name)?;
-    Ok(handle_amount(handle, &values))
+    Ok(handle_count(handle, &values))
 }
 
 /// What the handles of a prefix count, its administrative handle among them.
-fn held_under<R: Rows>(alloc: Global, rows: &mut R, root: &Name) -> Result<Amount, Refused>
+fn held_under<R: Rows>(alloc: Global, rows: &mut R, root: &Name) -> Result<Count, Refused>
     ensures unchanged { R.content rows.new ≡ R.content rows.old }
-    ensures values { IfOk result (λ amount. amount.values ≡ at_most_u64 (counted.held_under in_values (R.content rows.old) root.now)) }
-    ensures octets { IfOk result (λ amount. amount.octets ≡ at_most_u64 (counted.held_under in_octets (R.content rows.old) root.now)) }
+    ensures handles { IfOk result (λ held. held.handles ≡ at_most_u64 (counted.held_under in_handles (R.content rows.old) root.now)) }
+    ensures values { IfOk result (λ held. held.amount.values ≡ at_most_u64 (counted.held_under in_values (R.content rows.old) root.now)) }
+    ensures octets { IfOk result (λ held. held.amount.octets ≡ at_most_u64 (counted.held_under in_octets (R.content rows.old) root.now)) }
 {
     let mut sum = held_at_root(rows, root)?;
     let names = rows.names(root.prefix())?;
@@ -127,12 +130,13 @@ fn held_under<R: Rows>(alloc: Global, rows: &mut R, root: &Name) -> Result<Amoun
 }
 
 /// What the handles of these prefixes count.
-fn held_by<R: Rows>(alloc: Global, rows: &mut R, roots: &[Name]) -> Result<Amount, Refused>
+fn held_by<R: Rows>(alloc: Global, rows: &mut R, roots: &[Name]) -> Result<Count, Refused>
     ensures unchanged { R.content rows.new ≡ R.content rows.old }
-    ensures values { IfOk result (λ amount. amount.values ≡ at_most_u64 (counted.held_by in_values (R.content rows.old) roots.now)) }
-    ensures octets { IfOk result (λ amount. amount.octets ≡ at_most_u64 (counted.held_by in_octets (R.content rows.old) roots.now)) }
+    ensures handles { IfOk result (λ held. held.handles ≡ at_most_u64 (counted.held_by in_handles (R.content rows.old) roots.now)) }
+    ensures values { IfOk result (λ held. held.amount.values ≡ at_most_u64 (counted.held_by in_values (R.content rows.old) roots.now)) }
+    ensures octets { IfOk result (λ held. held.amount.octets ≡ at_most_u64 (counted.held_by in_octets (R.content rows.old) roots.now)) }
 {
-    let mut sum = Amount::NONE;
+    let mut sum = Count::NONE;
     for root in roots {
         sum = sum.plus(held_under(alloc, rows, root)?);
     }
@@ -262,7 +266,12 @@ impl<R: Owing + Drop, A: BoundObserver + Drop> Rows for BoundedRows<R, A> {
         Ok(names)
     }
 
-    fn create(&mut self, name: &Name, values: &[Value]) -> Result<(), Refused>
+    fn create(
+        &mut self,
+        name: &Name,
+        values: &[Value],
+        provenance: &Provenance<'_>,
+    ) -> Result<(), Refused>
         requires absent { has self.old.table (canonical name.now) ≡ false }
         requires distinct { AreDistinct (indexes values.now) }
         ensures done { OnOk result (self.new.table ≡ with_new_handle self.old.table (canonical name.now) values.now) }
@@ -275,11 +284,11 @@ impl<R: Owing + Drop, A: BoundObserver + Drop> Rows for BoundedRows<R, A> {
     {
         let prefix = name.prefix();
         if !self.accounts.count(prefix) {
-            return self.rows.create(name, values);
+            return self.rows.create(name, values, provenance);
         }
         let change = CountChange {
-            gain: handle_amount(name.canon(), values),
-            back: Amount::NONE,
+            gain: handle_count(name.canon(), values),
+            back: Count::NONE,
         };
         permit(
             &self.accounts,
@@ -288,13 +297,18 @@ impl<R: Owing + Drop, A: BoundObserver + Drop> Rows for BoundedRows<R, A> {
             prefix,
             change,
         )?;
-        self.rows.create(name, values)?;
+        self.rows.create(name, values, provenance)?;
         self.accounts.count_change(prefix, change);
         note_held(&self.accounts, &mut self.observer, prefix);
         Ok(())
     }
 
-    fn add(&mut self, name: &Name, values: &[Value]) -> Result<(), Refused>
+    fn add(
+        &mut self,
+        name: &Name,
+        values: &[Value],
+        provenance: &Provenance<'_>,
+    ) -> Result<(), Refused>
         requires there { has self.old.table (canonical name.now) ≡ true }
         requires distinct { AreDistinct (indexes values.now) }
         requires free { AreAbsent self.old.table (canonical name.now) (indexes values.now) }
@@ -308,11 +322,11 @@ impl<R: Owing + Drop, A: BoundObserver + Drop> Rows for BoundedRows<R, A> {
     {
         let prefix = name.prefix();
         if !self.accounts.count(prefix) {
-            return self.rows.add(name, values);
+            return self.rows.add(name, values, provenance);
         }
         let change = CountChange {
-            gain: values_amount(values),
-            back: Amount::NONE,
+            gain: values_count(values),
+            back: Count::NONE,
         };
         permit(
             &self.accounts,
@@ -321,13 +335,18 @@ impl<R: Owing + Drop, A: BoundObserver + Drop> Rows for BoundedRows<R, A> {
             prefix,
             change,
         )?;
-        self.rows.add(name, values)?;
+        self.rows.add(name, values, provenance)?;
         self.accounts.count_change(prefix, change);
         note_held(&self.accounts, &mut self.observer, prefix);
         Ok(())
     }
 
-    fn modify(&mut self, name: &Name, values: &[Value]) -> Result<(), Refused>
+    fn modify(
+        &mut self,
+        name: &Name,
+        values: &[Value],
+        provenance: &Provenance<'_>,
+    ) -> Result<(), Refused>
         requires there { has self.old.table (canonical name.now) ≡ true }
         requires distinct { AreDistinct (indexes values.now) }
         requires taken { ArePresent self.old.table (canonical name.now) (indexes values.now) }
@@ -341,12 +360,12 @@ impl<R: Owing + Drop, A: BoundObserver + Drop> Rows for BoundedRows<R, A> {
     {
         let prefix = name.prefix();
         if !self.accounts.count(prefix) {
-            return self.rows.modify(name, values);
+            return self.rows.modify(name, values, provenance);
         }
         let held = self.rows.values(name)?;
         let change = CountChange {
-            gain: values_amount(values),
-            back: amount_of_replaced(&held, values),
+            gain: values_count(values),
+            back: count_of_replaced(&held, values),
         };
         permit(
             &self.accounts,
@@ -355,13 +374,18 @@ impl<R: Owing + Drop, A: BoundObserver + Drop> Rows for BoundedRows<R, A> {
             prefix,
             change,
         )?;
-        self.rows.modify(name, values)?;
+        self.rows.modify(name, values, provenance)?;
         self.accounts.count_change(prefix, change);
         note_held(&self.accounts, &mut self.observer, prefix);
         Ok(())
     }
 
-    fn remove(&mut self, name: &Name, indexes: &[u32]) -> Result<(), Refused>
+    fn remove(
+        &mut self,
+        name: &Name,
+        indexes: &[u32],
+        provenance: &Provenance<'_>,
+    ) -> Result<(), Refused>
         requires there { has self.old.table (canonical name.now) ≡ true }
         requires distinct { AreDistinct indexes.now }
         requires taken { ArePresent self.old.table (canonical name.now) indexes.now }
@@ -374,20 +398,20 @@ impl<R: Owing + Drop, A: BoundObserver + Drop> Rows for BoundedRows<R, A> {
     {
         let prefix = name.prefix();
         if !self.accounts.count(prefix) {
-            return self.rows.remove(name, indexes);
+            return self.rows.remove(name, indexes, provenance);
         }
         let held = self.rows.values(name)?;
         let change = CountChange {
-            gain: Amount::NONE,
-            back: amount_of_indexes(&held, indexes),
+            gain: Count::NONE,
+            back: count_of_indexes(&held, indexes),
         };
-        self.rows.remove(name, indexes)?;
+        self.rows.remove(name, indexes, provenance)?;
         self.accounts.count_change(prefix, change);
         note_held(&self.accounts, &mut self.observer, prefix);
         Ok(())
     }
 
-    fn delete(&mut self, name: &Name) -> Result<(), Refused>
+    fn delete(&mut self, name: &Name, provenance: &Provenance<'_>) -> Result<(), Refused>
         requires there { has self.old.table (canonical name.now) ≡ true }
         ensures done { OnOk result (self.new.table ≡ without_handle self.old.table (canonical name.now)) }
         ensures undone { OnErr result (self.new.table ≡ self.old.table) }
@@ -398,14 +422,14 @@ impl<R: Owing + Drop, A: BoundObserver + Drop> Rows for BoundedRows<R, A> {
     {
         let prefix = name.prefix();
         if !self.accounts.count(prefix) {
-            return self.rows.delete(name);
+            return self.rows.delete(name, provenance);
         }
         let held = self.rows.values(name)?;
         let change = CountChange {
-            gain: Amount::NONE,
-            back: handle_amount(name.canon(), &held),
+            gain: Count::NONE,
+            back: handle_count(name.canon(), &held),
         };
-        self.rows.delete(name)?;
+        self.rows.delete(name, provenance)?;
         self.accounts.count_change(prefix, change);
         note_held(&self.accounts, &mut self.observer, prefix);
         Ok(())

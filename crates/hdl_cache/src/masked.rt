@@ -14,7 +14,7 @@ use crate::mask_key::MaskKey;
 use crate::searches::MasksAndSearches;
 use hdl_limits::Octets;
 use hdl_name::Name;
-use hdl_rows::{Owed, Owing, Refused, Rows};
+use hdl_rows::{Owed, Owing, Provenance, Refused, Rows};
 use hdl_value::{AdminMask, Reference, Value};
 use std::alloc::{AllocError, Global};
 use std::marker::Model;
@@ -125,32 +125,52 @@ impl<R: Rows + Drop> Rows for MaskedRows<R> {
         self.rows.names(authority)
     }
 
-    fn create(&mut self, name: &Name, values: &[Value]) -> Result<(), Refused> {
-        let done = self.rows.create(name, values);
+    fn create(
+        &mut self,
+        name: &Name,
+        values: &[Value],
+        provenance: &Provenance<'_>,
+    ) -> Result<(), Refused> {
+        let done = self.rows.create(name, values, provenance);
         self.last.note_write(&done);
         self.masks.note_write(name, done)
     }
 
-    fn add(&mut self, name: &Name, values: &[Value]) -> Result<(), Refused> {
-        let done = self.rows.add(name, values);
+    fn add(
+        &mut self,
+        name: &Name,
+        values: &[Value],
+        provenance: &Provenance<'_>,
+    ) -> Result<(), Refused> {
+        let done = self.rows.add(name, values, provenance);
         self.last.note_write(&done);
         self.masks.note_write(name, done)
     }
 
-    fn modify(&mut self, name: &Name, values: &[Value]) -> Result<(), Refused> {
-        let done = self.rows.modify(name, values);
+    fn modify(
+        &mut self,
+        name: &Name,
+        values: &[Value],
+        provenance: &Provenance<'_>,
+    ) -> Result<(), Refused> {
+        let done = self.rows.modify(name, values, provenance);
         self.last.note_write(&done);
         self.masks.note_write(name, done)
     }
 
-    fn remove(&mut self, name: &Name, indexes: &[u32]) -> Result<(), Refused> {
-        let done = self.rows.remove(name, indexes);
+    fn remove(
+        &mut self,
+        name: &Name,
+        indexes: &[u32],
+        provenance: &Provenance<'_>,
+    ) -> Result<(), Refused> {
+        let done = self.rows.remove(name, indexes, provenance);
         self.last.note_write(&done);
         self.masks.note_write(name, done)
     }
 
-    fn delete(&mut self, name: &Name) -> Result<(), Refused> {
-        let done = self.rows.delete(name);
+    fn delete(&mut self, name: &Name, provenance: &Provenance<'_>) -> Result<(), Refused> {
+        let done = self.rows.delete(name, provenance);
         self.last.note_write(&done);
         self.masks.note_write(name, done)
     }

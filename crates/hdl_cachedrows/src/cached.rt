@@ -7,7 +7,7 @@ use hdl_limits::Octets;
 use hdl_name::Name;
 use hdl_rows::heads::into_heads;
 use hdl_rows::reads::{found_octets, names_octets, seen_octets, values_octets, with_call};
-use hdl_rows::{Owed, Owing, Refused, Rows, Synchronous};
+use hdl_rows::{Owed, Owing, Provenance, Refused, Rows, Synchronous};
 use hdl_value::{Reference, Value};
 use std::alloc::{AllocError, Global};
 use std::hash::RandomState;
@@ -141,31 +141,51 @@ impl<R: Rows + Drop> Rows for CachedRows<R> {
         Ok(names)
     }
 
-    fn create(&mut self, name: &Name, values: &[Value]) -> Result<(), Refused> {
+    fn create(
+        &mut self,
+        name: &Name,
+        values: &[Value],
+        provenance: &Provenance<'_>,
+    ) -> Result<(), Refused> {
         self.cache.forget(name.canon());
-        self.rows.create(name, values)
+        self.rows.create(name, values, provenance)
     }
 
-    fn add(&mut self, name: &Name, values: &[Value]) -> Result<(), Refused> {
-        self.rows.add(name, values)?;
+    fn add(
+        &mut self,
+        name: &Name,
+        values: &[Value],
+        provenance: &Provenance<'_>,
+    ) -> Result<(), Refused> {
+        self.rows.add(name, values, provenance)?;
         self.cache.put(name.canon(), values);
         Ok(())
     }
 
-    fn modify(&mut self, name: &Name, values: &[Value]) -> Result<(), Refused> {
-        self.rows.modify(name, values)?;
+    fn modify(
+        &mut self,
+        name: &Name,
+        values: &[Value],
+        provenance: &Provenance<'_>,
+    ) -> Result<(), Refused> {
+        self.rows.modify(name, values, provenance)?;
         self.cache.put(name.canon(), values);
         Ok(())
     }
 
-    fn remove(&mut self, name: &Name, indexes: &[u32]) -> Result<(), Refused> {
+    fn remove(
+        &mut self,
+        name: &Name,
+        indexes: &[u32],
+        provenance: &Provenance<'_>,
+    ) -> Result<(), Refused> {
         self.cache.forget(name.canon());
-        self.rows.remove(name, indexes)
+        self.rows.remove(name, indexes, provenance)
     }
 
-    fn delete(&mut self, name: &Name) -> Result<(), Refused> {
+    fn delete(&mut self, name: &Name, provenance: &Provenance<'_>) -> Result<(), Refused> {
         self.cache.forget(name.canon());
-        self.rows.delete(name)
+        self.rows.delete(name, provenance)
     }
 
     fn refusals(&self) -> u64 {

@@ -1,5 +1,5 @@
 -- A batch of readings sends nothing but readings, and answers to their challenges.
-use Rattle.std.proofs.Common.{◌≡◌, ℕ, List, [], ◌∷◌, ◌++◌, All}
+use Rattle.std.proofs.Common.{ℕ, List, [], ◌∷◌, ◌++◌, All}
 use Rattle.std.proofs.lemmas.List.Elements.{All-push}
 use Rattle.hdl_client.specs.Outcomes.{IsWhole}
 use Rattle.hdl_client.specs.declared.challenge.Key.{Key}

@@ -1,14 +1,14 @@
 -- After an update each wanted value is there, and the others are as they were.
-use Rattle.std.proofs.Common.{◌≡◌, ℕ, ◌==◌, ◌&&◌, ◌||◌, not, Bool, true, false, List, [], ◌∷◌, ◌++◌, All, Contains, refl, sym, ap, subst, ◌∙◌, arith, length, get_or, ◌+◌, inl, inr}
+use Rattle.std.proofs.Common.{◌≡◌, ℕ, ◌==◌, ◌&&◌, not, Bool, true, false, List, [], ◌∷◌, ◌++◌, All, Contains, refl, sym, ap, subst, ◌∙◌, arith, length, get_or, inl, inr}
 use Rattle.std.specs.List.{filter, list_any}
 use Rattle.std.specs.Str.{bytes_eq}
-use Rattle.std.proofs.lemmas.Bool.{both_ways, not-true, eqb-true, eq-eqb, and_parts, and_from, and_left, and_right, or_left, or_right, not_from_true, not_from_false, cases_Bool, cond-false, false_from_ne_true}
+use Rattle.std.proofs.lemmas.Bool.{both_ways, not-true, eqb-true, eq-eqb, and_parts, and_from, and_right, or_left, or_right, not_from_true, not_from_false, cases_Bool, cond-false, false_from_ne_true}
 use Rattle.std.proofs.lemmas.List.{append-nil}
 use Rattle.std.proofs.lemmas.List.Elements.{Contains-get_or, All-head, All-tail, All-weaker, All-contains_itself, All-filter, filter-append}
 use Rattle.std.proofs.lemmas.List.Folds.{Any-from_list_any, list_any-append, list_any_at}
 use Rattle.std.proofs.lemmas.Slice.Eq.{bytes_eq-Decides}
 use Rattle.hdl_value.specs.declared.value.Value.{Value}
-use Rattle.hdl_commands.specs.Update.{has_index, is_same, is_there, is_changed, changed, lacking, modified, after, others, AreDistinct, Updates, UpdateIsRight}
+use Rattle.hdl_commands.specs.Update.{has_index, is_same, is_there, is_changed, changed, lacking, after, others, AreDistinct, UpdateIsRight}
 
 -- ---- lists
 

@@ -1,3 +1,4 @@
+pub mod Addresses
 pub mod Ended
 pub mod Exits
 pub mod Printout

@@ -163,7 +163,7 @@ fn advice_for(asked: &Asked<'_>, code: ResponseCode) -> &'static str {
     match code {
         ResponseCode::Error => advice_on_rest(operation),
         ResponseCode::ServerBusy => {
-            ": nothing was done: try again; if it stays so, the server's /health says why"
+            ": nothing was done: try again; if it stays so, the space of this prefix there may be full: ask its operator"
         }
         ResponseCode::ProtocolError => advice_on_layout(operation),
         ResponseCode::OperationDenied => advice_on_change(operation),
@@ -181,15 +181,6 @@ fn advice_for(asked: &Asked<'_>, code: ResponseCode) -> &'static str {
         ResponseCode::AuthenticationFailed => advice_on_secret(asked.keys),
         _ => "",
     }
-}
-
-/// What is said of a new handle whose name divides words or lines of a tenants text.
-pub(crate) const UNSAYABLE: &str =
-    "a tenants text can't express the space or line feed in the name: `handled export` will leave the handle out";
-
-/// Whether a name has a space or a line feed.
-pub(crate) fn is_unsayable(handle: &[u8]) -> bool {
-    handle.contains(&b' ') || handle.contains(&b'\n')
 }
 
 /// The prefix of a handle, as it is shown.
@@ -230,10 +221,6 @@ fn values_advice(alloc: Global, handle: &[u8]) -> Result<String, AllocError> {
 pub(crate) fn advice(alloc: Global, asked: &Asked<'_>, code: u32) -> Result<String, AllocError> {
     match ResponseCode::of(code) {
         None => Ok(String::new(alloc)),
-        Some(ResponseCode::Success)
-            if asked.operation == OpCode::CreateHandle && is_unsayable(asked.handle) => {
-            format!(in alloc; ": {UNSAYABLE}")
-        }
         Some(ResponseCode::NotAuthorized) => rights_advice(alloc, asked),
         Some(ResponseCode::ValueInvalid) if asked.operation == OpCode::CreateHandle => {
             values_advice(alloc, asked.handle)

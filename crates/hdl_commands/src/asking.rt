@@ -1,16 +1,17 @@
 //! One request, asked of a server.
 
-use crate::advice::{Asked, KeyWords, UNSAYABLE, advice, is_unsayable};
+use crate::advice::{Asked, KeyWords, advice};
 use crate::exit_status::ExitStatus;
 use crate::fault::ArgumentFault;
 use crate::key::key_of;
 use crate::reporting::{may_be_done, report_fault};
 use crate::request::{RequestDetails, is_administrator, request_of, takes_values};
+use crate::warnings::{Warning, is_unsayable, warning_of};
 use crate::words::{Printout, code_name, push_reply, push_short_reply};
 use hdl_client::{ClientFault, Key, Reply, connect};
 use hdl_frame::Envelope;
 use hdl_msg::{OpCode, ReplyView, RequestBody, ResponseCode};
-use hdl_value::Wire;
+use hdl_value::{Value, Wire};
 use hdl_value_lines::printed_octets;
 use std::alloc::{AllocError, Global};
 use std::io;
@@ -136,10 +137,25 @@ fn print_reply(
     Ok(())
 }
 
-/// Says on standard error that no text can name a new handle, if its name has a space or a line feed.
-fn report_unsayable(rt: &HostRuntime, question: &RequestOptions) {
+/// The values that a request writes.
+fn written_values(body: &RequestBody) -> &[Value] {
+    match body {
+        RequestBody::Create { values, .. }
+        | RequestBody::Add { values, .. }
+        | RequestBody::Modify { values, .. } => values.as_slice(),
+        _ => &[],
+    }
+}
+
+/// Says on standard error what may not be meant so of what was written.
+fn report_warnings(rt: &HostRuntime, question: &RequestOptions, body: &RequestBody) {
     if question.operation == OpCode::CreateHandle && is_unsayable(question.handle.as_bytes()) {
-        let _ = eprintln!(rt; "hdl: {UNSAYABLE}");
+        let _ = eprintln!(rt; "warning: {}", Warning::Name);
+    }
+    for value in written_values(body) {
+        if let Some(warning) = warning_of(value.kind.as_slice(), value.bytes.as_slice()) {
+            let _ = eprintln!(rt; "warning: value with index {}: {warning}", value.index);
+        }
     }
 }
 
@@ -152,7 +168,6 @@ fn show(
     let view = reply.view();
     print_reply(rt, question, &reply.envelope(), &view)?;
     if view.code() == Some(ResponseCode::Success) {
-        report_unsayable(rt, question);
         return Ok(ExitStatus::Success);
     }
     let code = view.header.response_code;
@@ -185,7 +200,11 @@ fn show_reply(
     key: Option<&Key>,
 ) -> Result<ExitStatus, RequestFault> {
     let reply = reply_to(rt, question, body, key)?;
-    show(rt, question, &reply)
+    let status = show(rt, question, &reply)?;
+    if status == ExitStatus::Success {
+        report_warnings(rt, question, body);
+    }
+    Ok(status)
 }
 
 fn ask_and_show(

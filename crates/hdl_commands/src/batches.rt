@@ -10,6 +10,7 @@ use crate::advice::{KeyWords, asked_by, line_advice};
 use crate::batch_text::{Layouts, read_batch};
 use crate::exit_status::ExitStatus;
 use crate::reporting::report_fault;
+use crate::warnings::{end_counts, print_warnings};
 use crate::words::code_name;
 use hdl_client::{Batch, ClientFault, Outcomes, Session, Task, Transport, connect};
 use hdl_msg::{ReplyView, ResponseCode};
@@ -23,6 +24,7 @@ struct BatchPrinter<'r> {
     rt: &'r HostRuntime,
     done: usize,
     failures: usize,
+    warnings: usize,
     /// The lines of those that failed.
     failed: Vec<usize>,
     /// How many requests there are, where progress is shown.
@@ -68,6 +70,9 @@ impl Outcomes for BatchPrinter<'_> {
             let _ = self.failed.push(task.line);
         }
         self.print_outcome(task, code);
+        if code == ResponseCode::Success.number() {
+            self.warnings = self.warnings.saturating_add(print_warnings(self.rt, task));
+        }
         self.show_progress();
     }
 }
@@ -77,11 +82,12 @@ pub(crate) fn shows_progress(rt: &HostRuntime) -> bool {
     rt.stderr().is_terminal() && !rt.stdout().is_terminal()
 }
 
-/// Prints how many requests succeeded, and the lines of those that failed.
+/// Prints how many requests succeeded, and how many warnings there were, and the lines of those that failed.
 fn print_end(printer: &BatchPrinter<'_>) {
     let failures = printer.failures;
     let succeeded = printer.done.saturating_sub(failures);
-    let _ = println!(printer.rt; "{succeeded} succeeded, {failures} failed");
+    let _ = print!(printer.rt; "{succeeded} succeeded, {failures} failed");
+    end_counts(printer.rt, printer.warnings);
     for line in &printer.failed {
         let _ = println!(printer.rt; "failed: line {line}");
     }
@@ -124,6 +130,7 @@ pub fn ask_batch<S: Transport>(
         rt,
         done: 0,
         failures: 0,
+        warnings: 0,
         failed: Vec::new(rt.alloc()),
         shown_of: Some(batch.tasks.len()).filter(|_| shows_progress(rt)),
     };

@@ -50,7 +50,7 @@ pub enum ArgumentFault {
     Utf16,
     #[error("the text begins with a byte order mark: save it as UTF-8 without one")]
     Mark,
-    #[error("the data is empty: create such a value with `hdl batch`")]
+    #[error("the data is empty: fill in the field `data`, or create such a value with `hdl batch`")]
     NoData,
     #[error("the data begins or ends with a space: take it out")]
     DataSpace,
@@ -70,12 +70,16 @@ pub enum ArgumentFault {
     KeyInFile,
     #[error("two rows of the handle have the same index")]
     IndexTwice,
+    #[error("the rows of the handle begin at line {0}, and other handles stand between")]
+    Apart(usize),
     #[error("the handle has more than {WRITTEN_MAX} values: create it with some, and add the others with `hdl batch`")]
     TooMany,
     #[error("the prefix isn't one: write it as 10 or 0.NA/10")]
     Prefix,
     #[error("what is replaced is empty: say how the URLs begin")]
     NoOld,
+    #[error("with NEW in the place of OLD some addresses would lose their http:// or https://, and no browser would be led there: write OLD and NEW with it, such as https://old.example/ and https://new.example/")]
+    NotFollowed,
     #[error("no memory")]
     Memory,
 }

@@ -3,7 +3,7 @@
 //! ```text
 //! header -> Columns;   a line -> its fields -> value_in_row -> the value
 //! rows of one handle -> creation_task -> the request that creates it
-//! of an update: rows -> question -> what is there -> steps -> the requests that modify what differs and add what lacks
+//! of an update: rows -> question -> what is there -> steps -> the requests that modify what differs and add what is missing
 //! ```
 //!
 //! A row is one line: nothing that can be imported has a line end in it, so a quote that isn't closed spoils its own line alone.
@@ -17,6 +17,7 @@ mod progress;
 mod reading;
 mod row;
 mod rows;
+mod together;
 mod update;
 mod updating;
 mod written;

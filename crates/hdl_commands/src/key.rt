@@ -44,7 +44,9 @@ fn secret(rt: &HostRuntime) -> Result<String, ArgumentFault> {
         Err(_) => return Err(ArgumentFault::NoSecret),
     }
     if rt.stdin().is_terminal() {
-        let _ = eprintln!(rt; "hdl: HDL_SECRET isn't set: type the secret of the key, and Enter");
+        let _ = eprintln!(rt;
+            "hdl: HDL_SECRET isn't set: type the secret of the key, and Enter (it will be visible; HDL_SECRET or a file avoids that)"
+        );
     }
     let mut line = String::new(rt.alloc());
     if rt.read_line(&mut line).is_err() {

@@ -17,7 +17,7 @@
 //! those of `hdl_value_lines`. Promised is that everything here is total, that a line of a [`Printout`] has no control character, that the
 //! line of a hidden key is a function of its index and the length of its data, and that a handle is imported with just the values that
 //! its rows say (`specs/Rows.antt`), that after an update what the rows name is there and all else as it was (`specs/Update.antt`), that a
-//! replacement changes the data of URLs alone, that a row that is written is read as its value (`specs/Replace.antt`), and that a batch's
+//! replacement changes the data of URLs alone, and turns none to which a browser is led into another (`specs/Addresses.antt`), that a row that is written is read as its value (`specs/Replace.antt`), and that a batch's
 //! exit status says whether each request succeeded (`specs/Ended.antt`); what else is printed is tested.
 //!
 //! ```rust
@@ -28,6 +28,7 @@
 //! ```
 #![tactic(auto)]
 
+mod addresses;
 mod advice;
 mod asking;
 mod batch_text;
@@ -44,6 +45,7 @@ mod request;
 mod scripts;
 mod sites;
 mod tenants;
+mod warnings;
 mod words;
 
 pub use asking::{RequestOptions, run_request};

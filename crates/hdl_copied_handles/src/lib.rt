@@ -6,9 +6,9 @@
 //! what is looked for, a place -> list_page: the next 500 of these
 //! ```
 //!
-//! A copy is read once, and of its values only URLs are: no secret comes along. What its file holds is SQL's (`sqlite`), and that the handles are
+//! A copy is read once, and of its values only URLs and HS_GONE are: no secret comes along. What its file holds is SQL's (`sqlite`), and that the handles are
 //! all of it is said in no clause. It promises that it is safe; that of the handles that were read just those of the prefix are given; that a handle's URL is
-//! the first that anybody may read; and that the pages of a list, one after the other, have each handle that is looked for, once, and no others.
+//! the first that anybody may read, and that one is gone if anybody may read so; and that the pages of a list, one after the other, have each handle that is looked for, once, and no others.
 //!
 //! ```rust
 //! // crates/hdl_web/src/main.rt

@@ -2,15 +2,17 @@
 
 use crate::fault::CopyFault;
 use crate::handles::CopiedHandles;
-use crate::listed::{CopiedUrl, ListedHandle, copy, listed};
+use crate::listed::{CopiedKind, CopiedValue, ListedHandle, copy, listed};
 use hdl_limits::Octets;
 use sqlite::types::ValueRef;
 use sqlite::{Alter, Connection, Row, params};
 use std::alloc::{AllocError, Global};
 use std::fs::File;
 
-/// The type of the values that are read.
+/// The types of the values that are read.
 const URL: &[u8] = b"URL";
+
+const HS_GONE: &[u8] = b"HS_GONE";
 
 /// The bit of a value's permissions by which anybody may read it.
 const PUBLIC_READ: i64 = 2;
@@ -23,22 +25,32 @@ fn octets_at(row: &Row, at: usize) -> Result<&[u8], CopyFault> {
     }
 }
 
-/// The URL in a row.
-fn url_in(alloc: Global, row: &Row) -> Result<CopiedUrl, CopyFault> {
-    let permissions: i64 = row.get(1)?;
-    Ok(CopiedUrl {
+/// What a value of this type says of its handle.
+fn kind_of(kind: &[u8]) -> CopiedKind {
+    if kind == URL {
+        CopiedKind::Url
+    } else {
+        CopiedKind::Gone
+    }
+}
+
+/// The value in a row.
+fn value_in(alloc: Global, row: &Row) -> Result<CopiedValue, CopyFault> {
+    let permissions: i64 = row.get(2)?;
+    Ok(CopiedValue {
+        kind: kind_of(octets_at(row, 1)?),
         is_public: permissions & PUBLIC_READ != 0,
-        octets: copy(alloc, octets_at(row, 2)?)?,
+        octets: copy(alloc, octets_at(row, 3)?)?,
     })
 }
 
-/// The handles that have URLs, by rising octets, as far as they were read; and the URLs of the next one.
+/// The handles that have such values, by rising octets, as far as they were read; and the values of the next one.
 #[derive(Drop)]
 struct Reading {
     alloc: Global,
     done: Vec<ListedHandle>,
     name: Octets,
-    urls: Vec<CopiedUrl>,
+    values: Vec<CopiedValue>,
 }
 
 impl Reading {
@@ -47,57 +59,57 @@ impl Reading {
             alloc,
             done: Vec::new(alloc),
             name: Octets::new(Vec::new(alloc)),
-            urls: Vec::new(alloc),
+            values: Vec::new(alloc),
         }
     }
 
-    /// All URLs of the handle were read.
+    /// All such values of the handle were read.
     fn close(&mut self) -> Result<(), AllocError> {
-        if !self.urls.is_empty() {
-            let handle = listed(self.alloc, self.name.as_slice(), &self.urls)?;
+        if !self.values.is_empty() {
+            let handle = listed(self.alloc, self.name.as_slice(), &self.values)?;
             self.done.push(handle)?;
-            self.urls.clear();
+            self.values.clear();
         }
         Ok(())
     }
 
-    /// Takes the next URL, of this handle.
-    fn take(&mut self, name: &[u8], url: CopiedUrl) -> Result<(), AllocError> {
+    /// Takes the next value, of this handle.
+    fn take(&mut self, name: &[u8], value: CopiedValue) -> Result<(), AllocError> {
         if self.name.as_slice() != name {
             self.close()?;
             self.name = copy(self.alloc, name)?;
         }
-        self.urls.push(url)?;
+        self.values.push(value)?;
         Ok(())
     }
 }
 
-/// The handles of a database that have URLs. No other value is read.
-fn urls_in<S: Alter>(
+/// The handles of a database that have URLs, or are gone. No other value is read.
+fn marked_in<S: Alter>(
     conn: &mut Connection<S>,
     alloc: Global,
 ) -> Result<Vec<ListedHandle>, CopyFault> {
     let mut reading = Reading::new(alloc);
     let mut rows = conn.query(
-        "SELECT name, perm, bytes FROM entries WHERE kind = ?1 ORDER BY name, idx",
-        params![URL],
+        "SELECT name, kind, perm, bytes FROM entries WHERE kind = ?1 OR kind = ?2 ORDER BY name, idx",
+        params![URL, HS_GONE],
     )?;
     for _ in 0..u64::MAX {
         let Some(row) = rows.next()? else {
             reading.close()?;
             return Ok(reading.done);
         };
-        reading.take(octets_at(row, 0)?, url_in(alloc, row)?)?;
+        reading.take(octets_at(row, 0)?, value_in(alloc, row)?)?;
     }
     // No memory holds as many values as that.
     Err(CopyFault::Memory)
 }
 
-/// Where the handle of this name leads: nowhere if it is none of these.
-fn url_of<'a>(with_urls: &'a [ListedHandle], name: &[u8]) -> &'a [u8] {
-    match with_urls.binary_search_by(|one| one.name.as_slice().cmp(name)) {
-        Ok(place) => with_urls.get(place).map_or(&[], |one| one.url.as_slice()),
-        Err(_) => &[],
+/// What is known of the handle of this name, if it is one of these.
+fn marked<'a>(handles: &'a [ListedHandle], name: &[u8]) -> Option<&'a ListedHandle> {
+    match handles.binary_search_by(|one| one.name.as_slice().cmp(name)) {
+        Ok(place) => handles.get(place),
+        Err(_) => None,
     }
 }
 
@@ -105,14 +117,16 @@ fn url_of<'a>(with_urls: &'a [ListedHandle], name: &[u8]) -> &'a [u8] {
 fn take_row(
     alloc: Global,
     row: &Row,
-    with_urls: &[ListedHandle],
+    with_values: &[ListedHandle],
     copied: &mut CopiedHandles,
 ) -> Result<(), CopyFault> {
     let prefix = octets_at(row, 0)?;
     let name = octets_at(row, 1)?;
+    let known = marked(with_values, name);
     let handle = ListedHandle {
         name: copy(alloc, name)?,
-        url: copy(alloc, url_of(with_urls, name))?,
+        url: copy(alloc, known.map_or(&[], |one| one.url.as_slice()))?,
+        is_gone: known.map_or(false, |one| one.is_gone),
     };
     copied.push(prefix, handle)?;
     Ok(())
@@ -123,7 +137,7 @@ fn handles_in<S: Alter>(
     conn: &mut Connection<S>,
     alloc: Global,
 ) -> Result<CopiedHandles, CopyFault> {
-    let with_urls = urls_in(conn, alloc)?;
+    let with_values = marked_in(conn, alloc)?;
     let mut copied = CopiedHandles::new(alloc);
     let mut rows = conn.query(
         "SELECT authority, name FROM handles ORDER BY authority, name",
@@ -133,7 +147,7 @@ fn handles_in<S: Alter>(
         let Some(row) = rows.next()? else {
             return Ok(copied);
         };
-        take_row(alloc, row, &with_urls, &mut copied)?;
+        take_row(alloc, row, &with_values, &mut copied)?;
     }
     // No memory holds as many handles as that.
     Err(CopyFault::Memory)

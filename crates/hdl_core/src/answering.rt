@@ -14,28 +14,33 @@ use hdl_frame::Envelope;
 use hdl_limits::Octets;
 use hdl_msg::{ReplyContent, ResponseCode, refuse};
 use hdl_ops::laws::empty_fits;
-use hdl_ops::{Change, Decision, HashedRequest, Refused, Rows, apply, render};
+use hdl_ops::{Agent, Change, Decision, HashedRequest, Provenance, Refused, Rows, apply, render};
 use std::alloc::Global;
 
 /// Makes the change of a decision, if there is one.
-fn make<R: Rows>(rows: &mut R, change: Option<Change>, moment: u64) -> Result<(), Refused>
+fn make<R: Rows>(
+    rows: &mut R,
+    change: Option<Change>,
+    provenance: &Provenance<'_>,
+) -> Result<(), Refused>
     requires can_apply { IfSome change (λ change. CanApply (R.content rows.old) change) }
-    ensures done { OnOk result (R.content rows.new ≡ apply_if (R.content rows.old) moment change) }
+    ensures done { OnOk result (R.content rows.new ≡ apply_if (R.content rows.old) provenance.now.moment change) }
     ensures undone { OnErr result (R.content rows.new ≡ R.content rows.old) }
     ensures reads { R.reads rows.new ≡ R.reads rows.old }
 {
     match change {
-        Some(change) => apply(rows, change, moment),
+        Some(change) => apply(rows, change, provenance),
         None => Ok(()),
     }
 }
 
-/// Renders the reply of a decision and makes its change.
+/// Renders the reply of a decision and makes its change, which this agent asked for.
 pub(crate) fn answer<R: Rows>(
     alloc: Global,
     asked: &HashedRequest<'_>,
     rows: &mut R,
     origin: &Origin,
+    agent: Agent<'_>,
     decision: Decision,
 ) -> Result<Octets, Refused>
     requires fits { IsTrue (fits asked.now.algorithm asked.now.request.now decision.content) }
@@ -52,7 +57,8 @@ pub(crate) fn answer<R: Rows>(
         change,
     } = decision;
     let octets = render(alloc, asked, &origin.envelope, origin.moment, code, content)?;
-    make(rows, change, origin.moment)?;
+    let moment = origin.moment;
+    make(rows, change, &Provenance { moment, agent })?;
     Ok(Octets::new(octets))
 }
 

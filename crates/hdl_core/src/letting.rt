@@ -12,7 +12,7 @@ ghost use Rattle.hdl_core.specs.Letting.{indexes_of, is_fit, name_of, stands};
 
 use hdl_limits::Items;
 use hdl_name::Name;
-use hdl_ops::{Change, Refused, Rows, apply};
+use hdl_ops::{Agent, Change, Provenance, Refused, Rows, apply};
 use hdl_rows::{Owed, value_with};
 use hdl_value::Value;
 use std::alloc::{AllocError, Global};
@@ -190,6 +190,7 @@ pub(crate) fn apply_remote<R: Rows>(
         return Ok(false);
     }
     let change = copied(alloc, change)?;
-    apply(rows, change, moment)?;
+    let agent = Agent::Server;
+    apply(rows, change, &Provenance { moment, agent })?;
     Ok(true)
 }

@@ -22,8 +22,8 @@ use hdl_frame::Envelope;
 use hdl_limits::{CHALLENGE_LIFE_MILLIS, Octets};
 use hdl_msg::{Body, Request, ResponseCode, read_request};
 use hdl_ops::{
-    Decision, HashedRequest, Level, Masked, NamedRequest, Owner, Proof, Refused, Response, decide,
-    decide_site, render, render_challenge, response_of,
+    Agent, Decision, HashedRequest, Level, Masked, NamedRequest, Owner, Proof, Refused, Response,
+    decide, decide_site, render, render_challenge, response_of,
 };
 use hdl_slots::Pending;
 use std::alloc::Global;
@@ -81,7 +81,7 @@ fn decide_for_anyone<R: Masked>(
         drop(decision);
         return challenge(owner.alloc, &asked, origin, next);
     }
-    let octets = answer(owner.alloc, &asked, rows, origin, decision)?;
+    let octets = answer(owner.alloc, &asked, rows, origin, Agent::Anyone, decision)?;
     Ok(RequestResult::Answered(octets))
 }
 
@@ -211,7 +211,9 @@ fn redeem<'a, R: Masked>(
     };
     let named = NamedRequest::read(owner, asked)?;
     let decision = decide(named, rows, &Level::Proven(proof))?;
-    answer(owner.alloc, &asked, rows, origin, decision)
+    let Response { handle, index, .. } = response;
+    let agent = Agent::Key { handle, index };
+    answer(owner.alloc, &asked, rows, origin, agent, decision)
 }
 
 /// The reply to a challenge response. The challenge that it names is spent, unless the reply is refused.

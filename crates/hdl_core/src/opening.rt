@@ -11,7 +11,7 @@ use crate::lanes::Lanes;
 use crate::machine::Machine;
 use crate::service::Service;
 use hdl_name::Name;
-use hdl_ops::{MaskedRows, Refused, Rows, Tenants};
+use hdl_ops::{MaskedRows, Provenance, Refused, Rows, Tenants};
 use hdl_value::Value;
 use std::alloc::{AllocError, Global};
 use std::slice;
@@ -50,9 +50,9 @@ fn put_row<R: Rows>(rows: &mut R, name: &Name, value: &Value) -> Result<(), Refu
 {
     let values = slice::from_ref(value);
     if rows.exists(name)? {
-        rows.add(name, values)
+        rows.add(name, values, &Provenance::opening())
     } else {
-        rows.create(name, values)
+        rows.create(name, values, &Provenance::opening())
     }
 }
 

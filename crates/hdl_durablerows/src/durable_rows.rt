@@ -27,7 +27,7 @@ use crate::write::Write;
 use hdl_limits::Octets;
 use hdl_name::Name;
 use hdl_rows::reads::{found_octets, names_octets, seen_octets, values_octets, with_call};
-use hdl_rows::{Owed, Owing, Refused, Rows};
+use hdl_rows::{Owed, Owing, Provenance, Refused, Rows};
 use hdl_value::{Reference, Value};
 use sqlite::{Alter, Connection};
 use std::alloc::Global;
@@ -232,7 +232,12 @@ impl<R: Rows + Drop, F: DurableFile + Drop, A: ShutObserver + Drop> Rows for Dur
         Ok(names)
     }
 
-    fn create(&mut self, name: &Name, values: &[Value]) -> Result<(), Refused>
+    fn create(
+        &mut self,
+        name: &Name,
+        values: &[Value],
+        provenance: &Provenance<'_>,
+    ) -> Result<(), Refused>
         requires absent { has self.old.table (canonical name.now) ≡ false }
         requires distinct { AreDistinct (indexes values.now) }
         ensures done { OnOk result (self.new.table ≡ with_new_handle self.old.table (canonical name.now) values.now) }
@@ -247,11 +252,16 @@ impl<R: Rows + Drop, F: DurableFile + Drop, A: ShutObserver + Drop> Rows for Dur
             &mut self.refusals,
             &Write::Create(name, values),
         )?;
-        let done = self.rows.create(name, values);
+        let done = self.rows.create(name, values, provenance);
         claim(&mut self.backing.pending, done)
     }
 
-    fn add(&mut self, name: &Name, values: &[Value]) -> Result<(), Refused>
+    fn add(
+        &mut self,
+        name: &Name,
+        values: &[Value],
+        provenance: &Provenance<'_>,
+    ) -> Result<(), Refused>
         requires there { has self.old.table (canonical name.now) ≡ true }
         requires distinct { AreDistinct (indexes values.now) }
         requires free { AreAbsent self.old.table (canonical name.now) (indexes values.now) }
@@ -267,11 +277,16 @@ impl<R: Rows + Drop, F: DurableFile + Drop, A: ShutObserver + Drop> Rows for Dur
             &mut self.refusals,
             &Write::Add(name, values),
         )?;
-        let done = self.rows.add(name, values);
+        let done = self.rows.add(name, values, provenance);
         claim(&mut self.backing.pending, done)
     }
 
-    fn modify(&mut self, name: &Name, values: &[Value]) -> Result<(), Refused>
+    fn modify(
+        &mut self,
+        name: &Name,
+        values: &[Value],
+        provenance: &Provenance<'_>,
+    ) -> Result<(), Refused>
         requires there { has self.old.table (canonical name.now) ≡ true }
         requires distinct { AreDistinct (indexes values.now) }
         requires taken { ArePresent self.old.table (canonical name.now) (indexes values.now) }
@@ -287,11 +302,16 @@ impl<R: Rows + Drop, F: DurableFile + Drop, A: ShutObserver + Drop> Rows for Dur
             &mut self.refusals,
             &Write::Modify(name, values),
         )?;
-        let done = self.rows.modify(name, values);
+        let done = self.rows.modify(name, values, provenance);
         claim(&mut self.backing.pending, done)
     }
 
-    fn remove(&mut self, name: &Name, indexes: &[u32]) -> Result<(), Refused>
+    fn remove(
+        &mut self,
+        name: &Name,
+        indexes: &[u32],
+        provenance: &Provenance<'_>,
+    ) -> Result<(), Refused>
         requires there { has self.old.table (canonical name.now) ≡ true }
         requires distinct { AreDistinct indexes.now }
         requires taken { ArePresent self.old.table (canonical name.now) indexes.now }
@@ -307,11 +327,11 @@ impl<R: Rows + Drop, F: DurableFile + Drop, A: ShutObserver + Drop> Rows for Dur
             &mut self.refusals,
             &Write::Remove(name, indexes),
         )?;
-        let done = self.rows.remove(name, indexes);
+        let done = self.rows.remove(name, indexes, provenance);
         claim(&mut self.backing.pending, done)
     }
 
-    fn delete(&mut self, name: &Name) -> Result<(), Refused>
+    fn delete(&mut self, name: &Name, provenance: &Provenance<'_>) -> Result<(), Refused>
         requires there { has self.old.table (canonical name.now) ≡ true }
         ensures done { OnOk result (self.new.table ≡ without_handle self.old.table (canonical name.now)) }
         ensures undone { OnErr result (self.new.table ≡ self.old.table) }
@@ -325,7 +345,7 @@ impl<R: Rows + Drop, F: DurableFile + Drop, A: ShutObserver + Drop> Rows for Dur
             &mut self.refusals,
             &Write::Delete(name),
         )?;
-        let done = self.rows.delete(name);
+        let done = self.rows.delete(name, provenance);
         claim(&mut self.backing.pending, done)
     }
 

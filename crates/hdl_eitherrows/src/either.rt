@@ -5,7 +5,7 @@ ghost use Rattle.hdl_eitherrows.specs.Either.{said_of};
 
 use hdl_limits::Octets;
 use hdl_name::Name;
-use hdl_rows::{Owed, Owing, Refused, Rows};
+use hdl_rows::{Owed, Owing, Provenance, Refused, Rows};
 use hdl_value::{Reference, Value};
 
 /// A table of one of two kinds.
@@ -64,38 +64,58 @@ impl<A: Rows, B: Rows> Rows for EitherRows<A, B> {
         }
     }
 
-    fn create(&mut self, name: &Name, values: &[Value]) -> Result<(), Refused> {
+    fn create(
+        &mut self,
+        name: &Name,
+        values: &[Value],
+        provenance: &Provenance<'_>,
+    ) -> Result<(), Refused> {
         match self {
-            EitherRows::First(rows) => rows.create(name, values),
-            EitherRows::Second(rows) => rows.create(name, values),
+            EitherRows::First(rows) => rows.create(name, values, provenance),
+            EitherRows::Second(rows) => rows.create(name, values, provenance),
         }
     }
 
-    fn add(&mut self, name: &Name, values: &[Value]) -> Result<(), Refused> {
+    fn add(
+        &mut self,
+        name: &Name,
+        values: &[Value],
+        provenance: &Provenance<'_>,
+    ) -> Result<(), Refused> {
         match self {
-            EitherRows::First(rows) => rows.add(name, values),
-            EitherRows::Second(rows) => rows.add(name, values),
+            EitherRows::First(rows) => rows.add(name, values, provenance),
+            EitherRows::Second(rows) => rows.add(name, values, provenance),
         }
     }
 
-    fn modify(&mut self, name: &Name, values: &[Value]) -> Result<(), Refused> {
+    fn modify(
+        &mut self,
+        name: &Name,
+        values: &[Value],
+        provenance: &Provenance<'_>,
+    ) -> Result<(), Refused> {
         match self {
-            EitherRows::First(rows) => rows.modify(name, values),
-            EitherRows::Second(rows) => rows.modify(name, values),
+            EitherRows::First(rows) => rows.modify(name, values, provenance),
+            EitherRows::Second(rows) => rows.modify(name, values, provenance),
         }
     }
 
-    fn remove(&mut self, name: &Name, indexes: &[u32]) -> Result<(), Refused> {
+    fn remove(
+        &mut self,
+        name: &Name,
+        indexes: &[u32],
+        provenance: &Provenance<'_>,
+    ) -> Result<(), Refused> {
         match self {
-            EitherRows::First(rows) => rows.remove(name, indexes),
-            EitherRows::Second(rows) => rows.remove(name, indexes),
+            EitherRows::First(rows) => rows.remove(name, indexes, provenance),
+            EitherRows::Second(rows) => rows.remove(name, indexes, provenance),
         }
     }
 
-    fn delete(&mut self, name: &Name) -> Result<(), Refused> {
+    fn delete(&mut self, name: &Name, provenance: &Provenance<'_>) -> Result<(), Refused> {
         match self {
-            EitherRows::First(rows) => rows.delete(name),
-            EitherRows::Second(rows) => rows.delete(name),
+            EitherRows::First(rows) => rows.delete(name, provenance),
+            EitherRows::Second(rows) => rows.delete(name, provenance),
         }
     }
 

@@ -1,4 +1,6 @@
+pub mod Entries
 pub mod Leaves
 pub mod Made
+pub mod Parts
 pub mod Rows
 pub mod Unchanged

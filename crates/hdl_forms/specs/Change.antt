@@ -1,6 +1,7 @@
 -- The order that a change by a form is, and its body.
 use Rattle.std.specs.Prelude.{◌≡◌, ◌⊎◌, ℕ, Bool, true, false, if◌then◌else◌, List, [], ◌∷◌, ◌++◌, codes, Option, Some, None, option_map}
 use Rattle.std.specs.Int.{w16, w32, to_be_bytes}
+use Rattle.std.specs.Str.{trim}
 use Rattle.hdl_value.specs.declared.value.Value.{Value}
 use Rattle.hdl_value.specs.Spelling.{reference}
 use Rattle.hdl_value_lines.specs.Fields.{IsReferenceOf}
@@ -68,6 +69,6 @@ IsActOf d a = ((is_remove d.task ≡ true) × IsRemove d.index a) ⊎ ((is_remov
 abbrev pub IsBodyOf : List ℕ → Draft → ℕ → List ℕ → List ℕ → Type 0
 IsBodyOf name d index handle body = ((is_remove d.task ≡ true) × (body ≡ [])) ⊎ ((is_remove d.task ≡ false) × IsJsonOf name (values_of d index handle) body)
 
--- the key that was typed, with this secret
+-- the key that was typed, without the spaces at its ends, with this secret
 abbrev pub IsKeyOf : List ℕ → List ℕ → Key → Type 0
-IsKeyOf words secret key = IsReferenceOf words key.index key.handle × (key.secret ≡ secret)
+IsKeyOf words secret key = IsReferenceOf (trim words) key.index key.handle × (key.secret ≡ secret)

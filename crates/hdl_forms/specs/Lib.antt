@@ -1,6 +1,9 @@
 pub mod Change
+pub mod Confirm
 pub mod Draft
+pub mod Fields
 pub mod Guarded
+pub mod History
 pub mod Lists
 pub mod FormLink
 pub mod Origin
@@ -8,3 +11,4 @@ pub mod Pages
 pub mod Taken
 pub mod Template
 pub mod Token
+pub mod Warnings

@@ -1,5 +1,5 @@
 -- The list of a prefix's handles: its form, the order by which a server is asked whether a key may list them, and its page.
-use Rattle.std.specs.Prelude.{◌≡◌, ◌≤◌, ⊤, ℕ, Bool, true, false, List, [], ◌∷◌, ◌++◌, length, flat_map, slice_get, unwrap_or, codes, decimal, Option, Some, None, Result, IfOk}
+use Rattle.std.specs.Prelude.{◌≡◌, ◌≤◌, ⊤, ℕ, Bool, true, false, List, [], ◌∷◌, ◌++◌, length, if◌then◌else◌, flat_map, slice_get, unwrap_or, codes, decimal, Option, Some, None, Result, IfOk}
 use Rattle.hdl_value_lines.specs.Fields.{number_in}
 use Rattle.hdl_proxy.specs.Link.{path_to}
 use Rattle.hdl_proxy.specs.declared.answer.Answer.{Answer}
@@ -16,6 +16,7 @@ use Rattle.hdl_copied_handles.specs.declared.listed.ListedHandle.{ListedHandle}
 use Rattle.hdl_copied_handles.specs.declared.search.Search.{Search}
 use Rattle.hdl_forms.specs.Change.{IsKeyOf}
 use Rattle.hdl_forms.specs.Draft.{Pairs}
+use Rattle.hdl_forms.specs.Fields.{prefix_template, with_keys}
 use Rattle.hdl_forms.specs.Pages.{IsFormPage}
 use Rattle.hdl_forms.specs.Taken.{text_in}
 use Rattle.hdl_forms.specs.Template.{filled, markup_of}
@@ -23,6 +24,7 @@ use Rattle.hdl_forms.specs.declared.lists.ListRequest.{ListRequest}
 use Rattle.hdl_forms.specs.declared.lists.ListStep.{ListStep}
 use Rattle.hdl_forms.specs.declared.lists.ListStep.TheVariants as steps
 use Rattle.hdl_forms.specs.declared.lists.TheConstants.{WORDS_MOST}
+use Rattle.hdl_forms.specs.declared.markup.Template.{Template}
 use Rattle.hdl_forms.specs.declared.markup.Template.TheVariants as templates
 
 -- ---- what is asked for
@@ -61,11 +63,19 @@ IsListStep Orders (steps.Order order request) = Orders order request
 
 -- ---- what is shown
 
--- the form with the fields of a request, and what is wrong with them
+-- the form of a request up to its prefix, and what is wrong with it
+abbrev pub with_prefix : ListRequest → List ℕ → List ℕ → List ℕ
+with_prefix request top at_prefix =
+    filled (markup_of templates.List) (request.token ∷ top ∷ []) ++ filled (markup_of (prefix_template at_prefix)) (request.prefix ∷ at_prefix ∷ [])
+
+abbrev pub with_words : List ℕ → ListRequest → List ℕ
+with_words page request = page ++ filled (markup_of templates.Words) (request.name ∷ request.url ∷ [])
+
+-- the form with the fields of a request, and what is wrong with them; its fields of key and secret are empty
 abbrev pub IsForm : ListRequest → List ℕ → Type 0
 IsForm request octets =
     (top at_prefix at_key at_secret : List ℕ)
-    × (octets ≡ filled (markup_of templates.List) (request.token ∷ top ∷ request.prefix ∷ at_prefix ∷ request.name ∷ request.url ∷ at_key ∷ at_secret ∷ []))
+    × (octets ≡ with_keys (with_words (with_prefix request top at_prefix) request) at_key at_secret)
 
 -- the end of the form: the button that finds, and the one of the next page, if there is one
 abbrev pub buttons : Option ℕ → List ℕ
@@ -90,9 +100,19 @@ name_at handles place = name_of (slice_get handles place)
 abbrev pub url_at : List ListedHandle → ℕ → List ℕ
 url_at handles place = url_of (slice_get handles place)
 
--- the handle at this place, with the address of its page, and where it leads
+abbrev pub is_gone_of : Option ListedHandle → Bool
+is_gone_of None = false
+is_gone_of (Some handle) = handle.is_gone
+
+abbrev pub is_gone_at : List ListedHandle → ℕ → Bool
+is_gone_at handles place = is_gone_of (slice_get handles place)
+
+abbrev pub row_template : List ListedHandle → ℕ → Template
+row_template handles place = if is_gone_at handles place then templates.GoneRow else templates.Row
+
+-- the handle at this place, with the address of its page, whether it is gone, and where it leads
 abbrev pub row_at : List ListedHandle → ℕ → List ℕ
-row_at handles place = filled (markup_of templates.Row) (path_to (name_at handles place) ∷ name_at handles place ∷ url_at handles place ∷ [])
+row_at handles place = filled (markup_of (row_template handles place)) (path_to (name_at handles place) ∷ name_at handles place ∷ url_at handles place ∷ [])
 
 -- a page and after it the rows of the handles at these places
 abbrev pub with_list : List ℕ → List ListedHandle → List ℕ → List ℕ
@@ -104,8 +124,13 @@ abbrev pub with_found : List ℕ → List ListedHandle → List ℕ → List ℕ
 with_found page handles [] = page ++ filled (markup_of templates.Nothing) []
 with_found page handles (first ∷ places) = with_list page handles (first ∷ places)
 
-abbrev pub list_end : List ℕ
-list_end = filled (markup_of templates.ListFoot) []
+-- that the next page may have some stands only if there is one
+abbrev pub foot_template : Option ℕ → Template
+foot_template None = templates.ListFoot
+foot_template (Some next) = templates.ListFootNext
+
+abbrev pub list_end : Option ℕ → List ℕ
+list_end next = filled (markup_of (foot_template next)) []
 
 -- the words that a request looks for
 pub record Seeks (request : ListRequest) (search : Search) : Type 0 where
@@ -115,7 +140,7 @@ pub record Seeks (request : ListRequest) (search : Search) : Type 0 where
 -- the form of a request, with the way to the next page of its list, and this part of the list
 abbrev pub Shows : ListRequest → List ListedHandle → ListPage → Answer → Type 0
 Shows request handles page answer =
-    (form : List ℕ) × IsForm request form × (answer.body.items ≡ with_found (form ++ buttons page.next) handles page.found.items ++ list_end)
+    (form : List ℕ) × IsForm request form × (answer.body.items ≡ with_found (form ++ buttons page.next) handles page.found.items ++ list_end page.next)
 
 -- what is shown is what a request looks for, from its place on
 abbrev pub IsListOf : ListRequest → List ListedHandle → Answer → Type 0

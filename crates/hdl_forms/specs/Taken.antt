@@ -1,13 +1,17 @@
 -- What a form that came is taken for.
-use Rattle.std.specs.Prelude.{◌≡◌, ℕ, if◌then◌else◌, List, [], codes, unwrap_or, Ok}
-use Rattle.std.specs.Str.{is_utf8}
+use Rattle.std.specs.Prelude.{◌≡◌, ◌⊎◌, ⊤, ℕ, if◌then◌else◌, List, [], codes, unwrap_or, Ok}
+use Rattle.std.specs.Str.{is_utf8, trim}
 use Rattle.hdl_proxy.specs.Query.{pairs_of}
+use Rattle.hdl_proxy.specs.Url.{Begins}
+use Rattle.hdl_proxy.specs.declared.answer.Answer.{Answer}
 use Rattle.hdl_proxy.specs.declared.answer.Status.{Status}
 use Rattle.hdl_proxy.specs.declared.answer.Status.TheVariants as statuses
 use Rattle.hdl_forms.specs.Change.{IsActOf, IsBodyOf, IsKeyOf}
+use Rattle.hdl_forms.specs.Confirm.{HasWarnings}
 use Rattle.hdl_forms.specs.Draft.{Pairs, draft_in, first_named}
 use Rattle.hdl_forms.specs.Pages.{IsFormPage}
 use Rattle.hdl_forms.specs.declared.change.FormOrder.{FormOrder}
+use Rattle.hdl_forms.specs.declared.draft.Draft.{Draft}
 use Rattle.hdl_forms.specs.declared.forms.FormPlace.{FormPlace}
 use Rattle.hdl_forms.specs.declared.forms.FormPlace.TheVariants as places
 use Rattle.hdl_forms.specs.declared.forms.FormStep.{FormStep}
@@ -27,10 +31,22 @@ abbrev pub subject_of : FormPlace → List ℕ
 subject_of (places.Edit name) = name
 subject_of places.New = []
 
--- the handle that a form is about: its own, or the one that is named in it
+-- the handle that a form is about: its own, or the one that is named in it, without the spaces at its ends
 abbrev pub about : FormPlace → Pairs → List ℕ
 about (places.Edit name) pairs = name
-about places.New pairs = text_in (codes "handle") pairs
+about places.New pairs = trim (text_in (codes "handle") pairs)
+
+-- it begins as an address or as an identifier that a reader pastes
+abbrev pub IsAddress : List ℕ → Type 0
+IsAddress name = Begins name (codes "http://") ⊎ Begins name (codes "https://") ⊎ Begins name (codes "hdl:") ⊎ Begins name (codes "doi:")
+
+-- a new handle's name isn't so
+abbrev pub IsPlain : FormPlace → List ℕ → Type 0
+IsPlain (places.Edit own) name = ⊤
+IsPlain places.New name = ¬ (IsAddress name)
+
+abbrev pub IsNamed : FormPlace → Pairs → List ℕ → Type 0
+IsNamed place pairs name = (name ≡ about place pairs) × IsPlain place name
 
 -- the form has the change that the fields say, and this is its order by the key that is typed in them
 pub record IsOrderOf (name : List ℕ) (pairs : Pairs) (made : FormOrder) (form : FilledForm) : Type 0 where
@@ -40,10 +56,14 @@ pub record IsOrderOf (name : List ℕ) (pairs : Pairs) (made : FormOrder) (form 
   pub act : IsActOf form.draft made.order.act
   pub body : IsBodyOf name form.draft made.order.key.index made.order.key.handle made.body.items
 
--- a page with forms that no one keeps, or such an order
-abbrev pub IsStep : (FormOrder → FilledForm → Type 0) → FormStep → Type 0
-IsStep Orders (steps.Page answer) = (status : Status) × IsFormPage status answer
-IsStep Orders (steps.Order made form) = Orders made form
+-- a page that asks for the key of the change that the fields say has all that may be wrong with it
+abbrev pub IsWarned : List ℕ → Pairs → Answer → Type 0
+IsWarned name pairs answer = answer.status ≡ statuses.Success → (draft : Draft) × (draft_in pairs ≡ Ok draft) × HasWarnings name draft answer
+
+-- such a page with forms, which no one keeps, or such an order
+abbrev pub IsStep : (Answer → Type 0) → (FormOrder → FilledForm → Type 0) → FormStep → Type 0
+IsStep Pages Orders (steps.Page answer) = ((status : Status) × IsFormPage status answer) × Pages answer
+IsStep Pages Orders (steps.Order made form) = Orders made form
 
 -- a browser would ask for a password by itself at 401
 abbrev pub page_status : Status → Status

@@ -3,29 +3,54 @@ use Rattle.std.specs.Prelude.{◌≡◌, ℕ, ◌==◌, if◌then◌else◌, Lis
 use Rattle.hdl_proxy.specs.Escape.{escaped}
 use Rattle.hdl_forms.specs.declared.markup.Template.{Template}
 use Rattle.hdl_forms.specs.declared.markup.Template.TheVariants as templates
-use Rattle.hdl_forms.specs.declared.markup.TheConstants.{VALUES, VALUE, NONE, ADD, GONE, CREATE, SHOWN, CHANGED, CONFIRM, DONE, REFUSED, LIST, FIND, FIND_OR_NEXT, ROWS, ROW, ROWS_END, NOTHING, LIST_FOOT}
+use Rattle.hdl_forms.specs.declared.markup.TheConstants.{VALUES, ONE_AT_A_TIME, VALUE, VALUE_BUTTONS, FIELD, FAULTY_FIELD, KEY, FAULTY_KEY, SECRET, FAULTY_SECRET, NONE, ADD, ADD_BUTTON, GONE, CREATE, CREATE_BUTTON, SHOWN, WARNING, TYPE_WARNING, CHANGED, CONFIRM, CONFIRM_BUTTON, BACK, LOOK, DONE, REFUSED, LIST, PREFIX, FAULTY_PREFIX, WORDS, FIND, FIND_OR_NEXT, ROWS, ROW, GONE_ROW, ROWS_END, NOTHING, LIST_FOOT, LIST_FOOT_NEXT, HISTORY, ENTRY, BEFORE, ENTRY_END, HISTORY_END}
 use Rattle.hdl_forms.specs.declared.template.TheConstants.{HOLE}
 
 abbrev pub markup_of : Template → List ℕ
 markup_of templates.Values = VALUES.now
+markup_of templates.OneAtATime = ONE_AT_A_TIME.now
 markup_of templates.Value = VALUE.now
+markup_of templates.ValueButtons = VALUE_BUTTONS.now
+markup_of templates.Field = FIELD.now
+markup_of templates.FaultyField = FAULTY_FIELD.now
+markup_of templates.Key = KEY.now
+markup_of templates.FaultyKey = FAULTY_KEY.now
+markup_of templates.Secret = SECRET.now
+markup_of templates.FaultySecret = FAULTY_SECRET.now
 markup_of templates.None = NONE.now
 markup_of templates.Add = ADD.now
+markup_of templates.AddButton = ADD_BUTTON.now
 markup_of templates.Gone = GONE.now
 markup_of templates.Create = CREATE.now
+markup_of templates.CreateButton = CREATE_BUTTON.now
 markup_of templates.Shown = SHOWN.now
+markup_of templates.Warning = WARNING.now
+markup_of templates.TypeWarning = TYPE_WARNING.now
 markup_of templates.Changed = CHANGED.now
 markup_of templates.Confirm = CONFIRM.now
+markup_of templates.ConfirmButton = CONFIRM_BUTTON.now
+markup_of templates.Back = BACK.now
+markup_of templates.Look = LOOK.now
 markup_of templates.Done = DONE.now
 markup_of templates.Refused = REFUSED.now
 markup_of templates.List = LIST.now
+markup_of templates.Prefix = PREFIX.now
+markup_of templates.FaultyPrefix = FAULTY_PREFIX.now
+markup_of templates.Words = WORDS.now
 markup_of templates.Find = FIND.now
 markup_of templates.FindOrNext = FIND_OR_NEXT.now
 markup_of templates.Rows = ROWS.now
 markup_of templates.Row = ROW.now
+markup_of templates.GoneRow = GONE_ROW.now
 markup_of templates.RowsEnd = ROWS_END.now
 markup_of templates.Nothing = NOTHING.now
 markup_of templates.ListFoot = LIST_FOOT.now
+markup_of templates.ListFootNext = LIST_FOOT_NEXT.now
+markup_of templates.History = HISTORY.now
+markup_of templates.Entry = ENTRY.now
+markup_of templates.Before = BEFORE.now
+markup_of templates.EntryEnd = ENTRY_END.now
+markup_of templates.HistoryEnd = HISTORY_END.now
 
 -- the text of this place, and an empty one behind the last
 abbrev pub text_at : List (List ℕ) → ℕ → List ℕ

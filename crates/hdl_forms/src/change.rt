@@ -215,12 +215,12 @@ fn reference_in(words: &str) -> Option<(u32, &str)>
     read_reference(words)
 }
 
-/// The key that was typed, with its secret.
+/// The key that was typed, without the spaces at its ends, with its secret.
 pub(crate) fn key_of(alloc: Global, typed: TypedKey<'_>) -> Result<Key, TypedFault>
     ensures key { IfOk result (IsKeyOf typed.entry.key.now typed.entry.secret.now) }
     ensures short { IfOk result (λ key. length key.handle < 2 ^ 32) }
 {
-    let Some((index, handle)) = reference_in(typed.key) else {
+    let Some((index, handle)) = reference_in(typed.key.trim()) else {
         return Err(TypedFault::Key);
     };
     if typed.secret.is_empty() {

@@ -1,11 +1,14 @@
 //! A change of one value, as a form says it.
 
 ghost use Rattle.std.specs.Prelude.{◌≡◌, ◌⊎◌, ◌↔◌, IfOk, IfErr, IsTrue};
+ghost use Rattle.std.specs.List.{list_all};
 ghost use Rattle.hdl_value.specs.Reading.{Reads};
+ghost use Rattle.hdl_value_lines.specs.Fields.{is_graphic, is_word};
 ghost use Rattle.hdl_proxy.specs.Query.{texts_of};
-ghost use Rattle.hdl_forms.specs.Draft.{IsDraftFault, IsUsable, are_printed, draft_in, first_named, index_in, index_of, is_free, is_own_type, is_printed, is_remove, is_reserved, is_type, kind_in, kind_of, line_in, old_of, permissions_of, task_named, task_of, text_of, ttl_of};
+ghost use Rattle.hdl_forms.specs.Draft.{IsAliasUsable, IsDraftFault, IsUrlUsable, IsUsable, are_printed, draft_in, first_named, index_in, index_of, is_alias, is_free, is_open, is_own_type, is_printed, is_remove, is_reserved, is_short, is_type, kind_of, line_in, old_of, open_kind, permissions_of, short_kind, task_named, task_of, text_of, ttl_of, typed, word_in};
 
 use hdl_limits::{DATA_MAX, Octets, TYPE_MAX};
+use hdl_name::is_name;
 use hdl_proxy::{Pair, is_followed};
 use hdl_value::{HS_ALIAS, HS_GONE, URL};
 use hdl_value_lines::{number_in, permissions_in};
@@ -41,12 +44,18 @@ pub struct Draft {
 pub enum DraftFault {
     Task,
     Index,
+    /// The type isn't one word of graphic ASCII.
     Type,
+    TypeLong,
+    /// The service or the proxy acts by values of the type.
+    TypeReserved,
     Ttl,
     Permissions,
     Text,
     /// The text is no URL that is followed.
     Url,
+    /// The text of an alias is no handle.
+    Alias,
     Memory,
 }
 
@@ -71,6 +80,14 @@ pub(crate) fn first_named<'a>(pairs: &'a [Pair], name: &str) -> Option<&'a str>
         }
     }
     None
+}
+
+/// The same of a field that is typed, without the spaces at its ends.
+fn typed<'a>(pairs: &'a [Pair], name: &str) -> Option<&'a str>
+    ensures { Reads (λ t. t.now) result (typed name.now (texts_of pairs.now)) }
+{
+    let text = first_named(pairs, name)?;
+    Some(text.trim())
 }
 
 fn task_named(word: &str) -> Option<Task>
@@ -113,11 +130,43 @@ fn is_own_type(kind: &[u8]) -> bool
     kind == HS_ALIAS || kind == HS_GONE
 }
 
+/// Whether forms change values of a type that begins so.
+fn is_open(kind: &[u8]) -> bool
+    ensures { result ≡ is_open kind.now }
+{
+    !is_reserved(kind) || is_own_type(kind)
+}
+
+fn is_graphic(octet: u8) -> bool
+    ensures { result ≡ is_graphic octet }
+{
+    octet > b' ' && octet < 127
+}
+
+fn are_graphic(text: &[u8]) -> bool
+    ensures { result ≡ list_all is_graphic text.now }
+{
+    text.iter().all(|octet| is_graphic(*octet))
+}
+
+/// Whether these are one word of graphic ASCII, as the line of a value has its type.
+fn is_word(text: &[u8]) -> bool
+    ensures { result ≡ is_word text.now }
+{
+    !text.is_empty() && are_graphic(text)
+}
+
+fn is_short(kind: &[u8]) -> bool
+    ensures { result ≡ is_short kind.now }
+{
+    kind.len() <= TYPE_MAX
+}
+
 /// Whether forms change values of this type.
 pub(crate) fn is_type(kind: &[u8]) -> bool
     ensures { result ≡ is_type kind.now }
 {
-    !kind.is_empty() && kind.len() <= TYPE_MAX && (!is_reserved(kind) || is_own_type(kind))
+    is_word(kind) && is_short(kind) && is_open(kind)
 }
 
 fn is_printed(octet: u8) -> bool
@@ -133,11 +182,33 @@ pub(crate) fn are_printed(text: &[u8]) -> bool
     text.iter().all(|octet| is_printed(*octet))
 }
 
-fn kind_in(text: &str) -> Option<&str>
-    ensures { Reads (λ t. t.now) result (kind_in text.now) }
+fn word_in(text: &str) -> Option<&str>
+    ensures { Reads (λ t. t.now) result (word_in text.now) }
 {
-    if is_type(text.as_bytes()) && are_printed(text.as_bytes()) {
+    if is_word(text.as_bytes()) {
         Some(text)
+    } else {
+        None
+    }
+}
+
+/// The type, if it isn't too long.
+fn short_kind(kind: &str) -> Option<&str>
+    ensures { Reads (λ t. t.now) result (short_kind kind.now) }
+{
+    if is_short(kind.as_bytes()) {
+        Some(kind)
+    } else {
+        None
+    }
+}
+
+/// The type, if forms change values of it.
+fn open_kind(kind: &str) -> Option<&str>
+    ensures { Reads (λ t. t.now) result (open_kind kind.now) }
+{
+    if is_open(kind.as_bytes()) {
+        Some(kind)
     } else {
         None
     }
@@ -160,7 +231,7 @@ pub(crate) fn is_remove(task: Task) -> bool
     matches!(task, Task::Remove)
 }
 
-fn task_of(pairs: &[Pair]) -> Option<Task>
+pub(crate) fn task_of(pairs: &[Pair]) -> Option<Task>
     ensures { result ≡ task_of (texts_of pairs.now) }
 {
     task_named(first_named(pairs, "task")?)
@@ -169,13 +240,13 @@ fn task_of(pairs: &[Pair]) -> Option<Task>
 fn index_of(pairs: &[Pair]) -> Option<u32>
     ensures { result ≡ index_of (texts_of pairs.now) }
 {
-    index_in(first_named(pairs, "index")?)
+    index_in(typed(pairs, "index")?)
 }
 
 fn kind_of(pairs: &[Pair]) -> Option<&str>
     ensures { Reads (λ t. t.now) result (kind_of (texts_of pairs.now)) }
 {
-    kind_in(first_named(pairs, "type")?)
+    word_in(typed(pairs, "type")?)
 }
 
 fn ttl_of(pairs: &[Pair]) -> Option<u32>
@@ -197,7 +268,7 @@ fn text_of(task: Task, pairs: &[Pair]) -> Option<&str>
     if is_remove(task) {
         return Some("");
     }
-    line_in(first_named(pairs, "text")?)
+    line_in(typed(pairs, "text")?)
 }
 
 /// The text before, if the form says one.
@@ -217,10 +288,25 @@ fn is_free(draft: &Draft) -> bool
     is_remove(draft.task) || draft.kind.as_slice() != URL
 }
 
-fn is_usable(draft: &Draft) -> bool
-    ensures { IsTrue result ↔ IsUsable draft.now }
+/// Whether a URL is one that is followed.
+fn is_url_usable(draft: &Draft) -> bool
+    ensures { IsTrue result ↔ IsUrlUsable draft.now }
 {
     is_free(draft) || is_followed(draft.text.as_slice())
+}
+
+/// Whether another handle is named: the value isn't removed, and it is an alias.
+fn is_alias(draft: &Draft) -> bool
+    ensures { result ≡ is_alias draft.now }
+{
+    !is_remove(draft.task) && draft.kind.as_slice() == HS_ALIAS
+}
+
+/// Whether an alias is a handle.
+fn is_alias_usable(draft: &Draft) -> bool
+    ensures { IsTrue result ↔ IsAliasUsable draft.now }
+{
+    !is_alias(draft) || is_name(draft.text.as_slice())
 }
 
 fn octets(alloc: Global, text: &str) -> Result<Octets, AllocError>
@@ -243,6 +329,12 @@ fn draft_in(alloc: Global, pairs: &[Pair]) -> Result<Draft, DraftFault>
     };
     let Some(kind) = kind_of(pairs) else {
         return Err(DraftFault::Type);
+    };
+    let Some(kind) = short_kind(kind) else {
+        return Err(DraftFault::TypeLong);
+    };
+    let Some(kind) = open_kind(kind) else {
+        return Err(DraftFault::TypeReserved);
     };
     let Some(ttl) = ttl_of(pairs) else {
         return Err(DraftFault::Ttl);
@@ -270,8 +362,11 @@ pub fn read_draft(alloc: Global, pairs: &[Pair]) -> Result<Draft, DraftFault>
     ensures fault { IfErr result (IsDraftFault (draft_in (texts_of pairs.now))) }
 {
     let draft = draft_in(alloc, pairs)?;
-    if !is_usable(&draft) {
+    if !is_url_usable(&draft) {
         return Err(DraftFault::Url);
+    }
+    if !is_alias_usable(&draft) {
+        return Err(DraftFault::Alias);
     }
     Ok(draft)
 }

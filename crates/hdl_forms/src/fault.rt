@@ -2,6 +2,7 @@
 
 use crate::change::TypedFault;
 use crate::draft::DraftFault;
+use hdl_msg::ResponseCode;
 use hdl_name::NameFault;
 
 /// Where a fault is said.
@@ -57,7 +58,12 @@ pub(crate) fn fault_of_draft(of: DraftFault) -> Option<Fault<'static>> {
         )),
         DraftFault::Type => Some(fault_at(
             Field::Type,
-            "A type is a word. One that begins with HS_ can't be changed here, but HS_ALIAS and HS_GONE.",
+            "The type is empty, or has a space or other than graphic ASCII characters.",
+        )),
+        DraftFault::TypeLong => Some(fault_at(Field::Type, "The type is longer than 255 bytes.")),
+        DraftFault::TypeReserved => Some(fault_at(
+            Field::Type,
+            "Values of a type that begins with HS_ can't be changed here, but those of HS_ALIAS and HS_GONE.",
         )),
         DraftFault::Text => Some(fault_at(
             Field::Text,
@@ -66,6 +72,10 @@ pub(crate) fn fault_of_draft(of: DraftFault) -> Option<Fault<'static>> {
         DraftFault::Url => Some(fault_at(
             Field::Text,
             "An address begins with https://, http://, ftp://, mailto: or doi:.",
+        )),
+        DraftFault::Alias => Some(fault_at(
+            Field::Text,
+            "An alias names another handle: a prefix, a slash and a local name, such as 10/b.",
         )),
         DraftFault::Memory => None,
     }
@@ -95,6 +105,22 @@ pub(crate) fn fault_of_name(of: NameFault) -> Fault<'static> {
     }
 }
 
+/// What is said of a name that was pasted with what stands before it in an address.
+pub(crate) fn fault_of_address() -> Fault<'static> {
+    fault_at(
+        Field::Handle,
+        "Type only the handle, such as 10/a, without an address or hdl: before it.",
+    )
+}
+
+/// What is said of a form that is too old.
+pub(crate) fn fault_of_age() -> Fault<'static> {
+    fault_at(
+        Field::Top,
+        "This form is too old, so nothing was done: it can be sent for an hour, and until the server starts again. Please look at it and send it again.",
+    )
+}
+
 /// What is said of a prefix that is none.
 pub(crate) fn fault_of_prefix() -> Fault<'static> {
     fault_at(
@@ -108,5 +134,27 @@ pub(crate) fn fault_of_words() -> Fault<'static> {
     fault_at(
         Field::Top,
         "The words in the handle, and those in the URL, may have up to 256 bytes each.",
+    )
+}
+
+/// What is said in place of the words of an answer of this code, if that says more to someone who filled in a form.
+pub(crate) fn words_of_code(code: Option<u64>) -> Option<&'static str> {
+    let code = u32::try_from(code?).ok()?;
+    match ResponseCode::of(code) {
+        Some(ResponseCode::AuthenticationFailed) => {
+            Some("The secret isn't that of the key. Is there a space at its end?")
+        }
+        Some(ResponseCode::HandleAlreadyExists) => {
+            Some("This handle is there already. Perhaps the form was sent twice.")
+        }
+        _ => None,
+    }
+}
+
+/// What is said if a handle can't be said to be gone, since the index has a value.
+pub(crate) fn fault_of_gone() -> Fault<'static> {
+    fault_at(
+        Field::Top,
+        "Someone already said so, or a value that isn't public has this index.",
     )
 }

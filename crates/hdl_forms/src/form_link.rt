@@ -1,18 +1,18 @@
 //! Links to forms, below pages.
 
-ghost use Rattle.std.specs.Prelude.{◌≡◌, ◌↔◌, IfOk, IsTrue};
-ghost use Rattle.hdl_forms.specs.FormLink.{HasFormLink, HasLinkTo, form_link_markup};
+ghost use Rattle.std.specs.Prelude.{◌≡◌, ◌↔◌, ◌++◌, IfOk, IsTrue, OnOk};
+ghost use Rattle.hdl_forms.specs.FormLink.{HasFormLink, HasLinkTo, form_link_markup, link_markup};
 
+use hdl_languages::{Language, Phrase};
 use hdl_proxy::{Answer, CacheControl, Media, Status};
 use std::alloc::{AllocError, Global};
 
-const CHANGE: &str = "<p><small><a href=\"?edit\">Change this handle</a></small></p>\n";
+/// The fronts of the links.
+const CHANGE: &str = "<p><small><a href=\"?edit\">";
 
-const CREATE: &str = "<p><small><a href=\"/?new\">Create a handle</a></small></p>\n";
+const CREATE: &str = "<p><small><a href=\"/?new\">";
 
-const CREATE_OR_LIST: &str = "<p><small><a href=\"/?new\">Create a handle</a></small></p>
-<p><small><a href=\"/?list\">List handles</a></small></p>
-";
+const LIST: &str = "<p><small><a href=\"/?list\">";
 
 /// A form to which a page leads.
 #[derive(Clone, Copy, PartialEq, Eq)]
@@ -24,14 +24,34 @@ pub enum FormLink {
     CreateOrList,
 }
 
-impl FormLink {
-    fn markup(self) -> &'static str
-        ensures { result.now ≡ form_link_markup self }
-    {
-        match self {
-            FormLink::Change => CHANGE,
-            FormLink::Create => CREATE,
-            FormLink::CreateOrList => CREATE_OR_LIST,
+/// Adds a link with this front, whose words are this phrase.
+#[tactic(auto, unfolding(crate::specs::FormLink::link_markup))]
+fn put_link(
+    body: &mut Vec<u8>,
+    language: Language,
+    front: &'static str,
+    phrase: Phrase,
+) -> Result<(), AllocError>
+    ensures { OnOk result (body.new.items ≡ body.old.items ++ link_markup language front.now phrase) }
+{
+    body.extend_from_slice(front.as_bytes())?;
+    body.extend_from_slice(language.words(phrase).as_bytes())?;
+    body.extend_from_slice(b"</a></small></p>\n")
+}
+
+fn put_form_link(
+    body: &mut Vec<u8>,
+    language: Language,
+    form_link: FormLink,
+) -> Result<(), AllocError>
+    ensures { OnOk result (body.new.items ≡ body.old.items ++ form_link_markup language form_link) }
+{
+    match form_link {
+        FormLink::Change => put_link(body, language, CHANGE, Phrase::LinkToChange),
+        FormLink::Create => put_link(body, language, CREATE, Phrase::LinkToCreate),
+        FormLink::CreateOrList => {
+            put_link(body, language, CREATE, Phrase::LinkToCreate)?;
+            put_link(body, language, LIST, Phrase::LinkToList)
         }
     }
 }
@@ -45,18 +65,19 @@ fn has_form_link(answer: &Answer) -> bool
         && answer.cache_control != CacheControl::Never
 }
 
-/// The answer with a link to this form below it, if it is a page that others may keep and that isn't an error; and else as it is.
+/// The answer with a link to this form below it, in this language, if it is a page that others may keep and that isn't an error; and else as it is.
 pub fn with_form_link(
     alloc: Global,
+    language: Language,
     form_link: FormLink,
     answer: Answer,
 ) -> Result<Answer, AllocError>
-    ensures { IfOk result (HasLinkTo form_link answer) }
+    ensures { IfOk result (HasLinkTo language form_link answer) }
 {
     if !has_form_link(&answer) {
         return Ok(answer);
     }
     let mut body = Vec::from_slice(alloc, &answer.body)?;
-    body.extend_from_slice(form_link.markup().as_bytes())?;
+    put_form_link(&mut body, language, form_link)?;
     Ok(Answer { body, ..answer })
 }

@@ -1,24 +1,30 @@
 //! From a request of a form to a page, or to an order.
 
-ghost use Rattle.std.specs.Prelude.{◌≡◌, None, Ok, true, false, codes, option_copied, IfOk, IsSomeAnd};
+ghost use Rattle.std.specs.Prelude.{◌≡◌, ◌⊎◌, ◌↔◌, ⊤, None, Ok, true, false, codes, option_copied, IfOk, IsSomeAnd, IsTrue};
 ghost use Rattle.hdl_proxy.specs.Query.{texts_of};
 ghost use Rattle.hdl_proxy.specs.declared.answer.Status.{Status};
-ghost use Rattle.hdl_proxy.specs.declared.answer.Status.TheVariants.{Success, Forbidden};
+ghost use Rattle.hdl_proxy.specs.Url.{Begins};
+ghost use Rattle.hdl_proxy.specs.declared.answer.Status.TheVariants.{Success, Forbidden, Created, BadRequest};
+ghost use Rattle.hdl_forms.specs.Confirm.{HasWarnings, IsUnclear, done_part, is_unclear};
 ghost use Rattle.hdl_forms.specs.Draft.{draft_in};
 ghost use Rattle.hdl_forms.specs.Origin.{is_same_origin};
-ghost use Rattle.hdl_forms.specs.Pages.{IsFormPage};
-ghost use Rattle.hdl_forms.specs.Taken.{IsOrderOf, IsStep, about, fields_of, page_status, subject_of, text_in};
+ghost use Rattle.hdl_forms.specs.Pages.{Has, IsFormPage};
+ghost use Rattle.hdl_forms.specs.Taken.{IsAddress, IsOrderOf, IsPlain, IsStep, IsNamed, IsWarned, about, fields_of, page_status, subject_of, text_in};
 ghost use Rattle.hdl_forms.specs.Token.{accepts};
 
 use crate::change::{FormOrder, TypedKey, order_of};
-use crate::draft::{first_named, read_draft};
-use crate::fault::{Fault, Field, NO_FAULT, fault_of_draft, fault_of_key, fault_of_name};
+use crate::confirm::{confirm_page, done_page, says_gone};
+use crate::draft::{DraftFault, first_named, read_draft, task_of};
+use crate::fault::{
+    Fault, Field, NO_FAULT, fault_of_address, fault_of_age, fault_of_draft, fault_of_gone,
+    fault_of_key, fault_of_name, words_of_code,
+};
 use crate::origin::{Sender, is_same_origin};
 use crate::pages::{
-    FieldTexts, FilledForm, confirm_page, create_page, done_page, faulty_page, refused_page,
-    values_page,
+    FieldTexts, FilledForm, FormOf, create_page, faulty_page, refused_page, values_page,
 };
 use crate::token::TokenKey;
+use hdl_languages::Language;
 use hdl_msg::ResponseCode;
 use hdl_name::Name;
 use hdl_proxy::{
@@ -98,7 +104,7 @@ pub fn form_at(alloc: Global, path: &str, query: &str) -> Result<Option<FormPlac
 pub fn form_question(alloc: Global, name: Name) -> Question {
     Question {
         name,
-        form: AnswerFormat::Page,
+        form: AnswerFormat::Page(Language::English),
         indexes: Vec::new(alloc),
         types: Vec::new(alloc),
         append: Vec::new(alloc),
@@ -168,6 +174,45 @@ fn texts_in(pairs: &[Pair]) -> FieldTexts<'_> {
     }
 }
 
+/// The form as it was filled in, with what is wrong with it.
+fn form_again(
+    alloc: Global,
+    status: Status,
+    place: &FormPlace,
+    pairs: &[Pair],
+    token: &[u8],
+    fault: Fault<'static>,
+) -> Result<Answer, AllocError>
+    ensures { IfOk result (IsFormPage status) }
+{
+    match place {
+        FormPlace::New => {
+            let name = text_at(pairs, "handle").as_bytes();
+            let text = text_at(pairs, "text").as_bytes();
+            create_page(alloc, status, name, text, token, fault)
+        }
+        FormPlace::Edit(name) => {
+            let about = FormOf {
+                name: name.sent(),
+                token,
+                is_new: text_at(pairs, "task") == "add",
+            };
+            faulty_page(alloc, status, about, texts_in(pairs), fault)
+        }
+    }
+}
+
+/// Whether a form has this field to be typed in.
+fn has_field(place: &FormPlace, pairs: &[Pair], field: Field) -> bool {
+    match place {
+        FormPlace::New => matches!(field, Field::Handle | Field::Text),
+        FormPlace::Edit(_) if text_at(pairs, "task") == "add" => {
+            matches!(field, Field::Type | Field::Index | Field::Text)
+        }
+        FormPlace::Edit(_) => field == Field::Text,
+    }
+}
+
 /// The page of a form that has a fault in one of its fields.
 fn fault_page(
     alloc: Global,
@@ -176,9 +221,9 @@ fn fault_page(
     token: &[u8],
     fault: Fault<'static>,
 ) -> Result<Answer, AllocError>
-    ensures { IfOk result (λ page. (status : Status) × IsFormPage status page) }
+    ensures { IfOk result (IsFormPage BadRequest) }
 {
-    if fault.field == Field::Top {
+    if !has_field(place, pairs, fault.field) {
         return refused_page(
             alloc,
             Status::BadRequest,
@@ -187,16 +232,41 @@ fn fault_page(
             place.address(),
         );
     }
-    match place {
-        FormPlace::New => {
-            let name = text_at(pairs, "handle").as_bytes();
-            let text = text_at(pairs, "text").as_bytes();
-            create_page(alloc, Status::BadRequest, name, text, token, fault)
-        }
-        FormPlace::Edit(name) => {
-            let is_new = text_at(pairs, "task") == "add";
-            faulty_page(alloc, name.sent(), token, is_new, texts_in(pairs), fault)
-        }
+    form_again(alloc, Status::BadRequest, place, pairs, token, fault)
+}
+
+/// Whether a name begins as an address or as an identifier does that a reader pastes.
+fn is_address(name: &[u8]) -> bool
+    ensures { IsTrue result ↔ IsAddress name.now }
+{
+    begins(name, b"http://")
+        || begins(name, b"https://")
+        || begins(name, b"hdl:")
+        || begins(name, b"doi:")
+}
+
+/// Whether a text begins so, in any case of letters.
+fn begins(text: &[u8], front: &[u8]) -> bool
+    ensures { IsTrue result ↔ Begins text.now front.now }
+{
+    match text.split_at_checked(front.len()) {
+        Some((found, _)) => found.eq_ignore_ascii_case(front),
+        None => false,
+    }
+}
+
+/// The handle that a text names, which isn't one as readers paste it.
+fn new_name(alloc: Global, text: &str) -> Result<Result<Name, Fault<'static>>, AllocError>
+    ensures named { IfOk result (λ read. IfOk read (λ name. name ≡ text.now)) }
+    ensures plain { IfOk result (λ read. IfOk read (λ _. ¬ (IsAddress text.now))) }
+{
+    let octets = text.as_bytes();
+    if is_address(octets) {
+        return Ok(Err(fault_of_address()));
+    }
+    match read_name(alloc, octets)? {
+        Ok(name) => Ok(Ok(name)),
+        Err(fault) => Ok(Err(fault_of_name(fault))),
     }
 }
 
@@ -206,11 +276,11 @@ fn name_in(
     place: &FormPlace,
     pairs: &[Pair],
 ) -> Result<Result<Name, Fault<'static>>, AllocError>
-    ensures { IfOk result (λ read. IfOk read (λ name. name ≡ about place.now (texts_of pairs.now))) }
+    ensures { IfOk result (λ read. IfOk read (IsNamed place.now (texts_of pairs.now))) }
 {
     let octets = match place {
         FormPlace::Edit(name) => name.sent(),
-        FormPlace::New => text_at(pairs, "handle").as_bytes(),
+        FormPlace::New => return new_name(alloc, text_at(pairs, "handle").trim()),
     };
     match read_name(alloc, octets)? {
         Ok(name) => Ok(Ok(name)),
@@ -226,7 +296,8 @@ fn take_filled(
     pairs: &[Pair],
 ) -> Result<FormStep, AllocError>
     requires said { draft_in (texts_of pairs.now) ≡ Ok form.draft }
-    ensures { IfOk result (IsStep (IsOrderOf name (texts_of pairs.now))) }
+    requires named { form.name.items ≡ name }
+    ensures { IfOk result (IsStep (IsWarned name (texts_of pairs.now)) (IsOrderOf name (texts_of pairs.now))) }
 {
     let Some(key) = first_named(pairs, "key") else {
         return Ok(FormStep::Page(confirm_page(alloc, Status::Success, &form, NO_FAULT)?));
@@ -253,7 +324,8 @@ fn take_fields(
     pairs: &[Pair],
     token: Vec<u8>,
 ) -> Result<FormStep, AllocError>
-    ensures { IfOk result (IsStep (IsOrderOf (about place.now (texts_of pairs.now)) (texts_of pairs.now))) }
+    ensures step { IfOk result (IsStep (IsWarned (about place.now (texts_of pairs.now)) (texts_of pairs.now)) (IsOrderOf (about place.now (texts_of pairs.now)) (texts_of pairs.now))) }
+    ensures plain { IfOk result (IsStep (λ _. ⊤) (λ made _. IsPlain place.now made.order.name)) }
 {
     let name = match name_in(alloc, place, pairs)? {
         Ok(name) => name,
@@ -307,14 +379,48 @@ pub fn refuse_unread(
     refused_page(alloc, status, why, advice, address)
 }
 
-/// The page that refuses a form whose token isn't accepted; it leads to the form at this address.
-pub(crate) fn outdated_page(alloc: Global, address: &'static str) -> Result<Answer, AllocError>
+/// The change that a form says, if it says one.
+fn filled_in(
+    alloc: Global,
+    place: &FormPlace,
+    pairs: &[Pair],
+    token: &[u8],
+) -> Result<Option<FilledForm>, AllocError> {
+    let Ok(name) = name_in(alloc, place, pairs)? else {
+        return Ok(None);
+    };
+    match read_draft(alloc, pairs) {
+        Ok(draft) => Ok(Some(FilledForm {
+            name: name.into_sent(),
+            draft,
+            token: Vec::from_slice(alloc, token)?,
+        })),
+        Err(DraftFault::Memory) => Err(AllocError),
+        Err(_) => Ok(None),
+    }
+}
+
+/// The page of a form that is too old: the form again, filled in as it was, with a new token. Key and secret are typed anew.
+fn outdated_page(
+    alloc: Global,
+    place: &FormPlace,
+    pairs: &[Pair],
+    token: &[u8],
+) -> Result<Answer, AllocError>
     ensures { IfOk result (IsFormPage Forbidden) }
 {
-    let why = "This form is too old";
-    let advice =
-        "Nothing was done. A form can be sent for an hour, and until the server starts again.";
-    refused_page(alloc, Status::Forbidden, why, advice, address)
+    let fault = fault_of_age();
+    if task_of(pairs).is_none() {
+        let why = "This form isn't whole";
+        let advice = "Nothing was done.";
+        return refused_page(alloc, Status::Forbidden, why, advice, place.address());
+    }
+    if first_named(pairs, "key").is_some() {
+        if let Some(form) = filled_in(alloc, place, pairs, token)? {
+            return confirm_page(alloc, Status::Forbidden, &form, fault);
+        }
+    }
+    form_again(alloc, Status::Forbidden, place, pairs, token, fault)
 }
 
 /// The fields of a form's body. One that isn't text has none.
@@ -327,22 +433,23 @@ pub(crate) fn fields_of(alloc: Global, body: &[u8]) -> Result<Vec<Pair>, AllocEr
     read_pairs(alloc, text)
 }
 
-/// What is next for a form of this site: it is refused where its token isn't one of this process for this, not older than an hour. Then its first fault is shown beside its field. A form without a key is shown again to be confirmed, and one with a key is an order.
+/// What is next for a form of this site: it is shown again, filled in as it was, where its token isn't one of this process for this, not older than an hour. Then its first fault is shown beside its field. A form without a key is shown again to be confirmed, with what may be wrong with it, and one with a key is an order.
 pub fn take_form(
     alloc: Global,
     tokens: &TokenKey,
     place: &FormPlace,
     sent: SentForm<'_>,
 ) -> Result<FormStep, AllocError>
-    ensures step { IfOk result (IsStep (IsOrderOf (about place.now (fields_of sent.entry.body.now)) (fields_of sent.entry.body.now))) }
-    ensures guarded { IfOk result (IsStep (λ _ _. accepts tokens.now (subject_of place.now) sent.entry.now (text_in (codes "token") (fields_of sent.entry.body.now)) ≡ true)) }
+    ensures step { IfOk result (IsStep (IsWarned (about place.now (fields_of sent.entry.body.now)) (fields_of sent.entry.body.now)) (IsOrderOf (about place.now (fields_of sent.entry.body.now)) (fields_of sent.entry.body.now))) }
+    ensures plain { IfOk result (IsStep (λ _. ⊤) (λ made _. IsPlain place.now made.order.name)) }
+    ensures guarded { IfOk result (IsStep (λ _. ⊤) (λ _ _. accepts tokens.now (subject_of place.now) sent.entry.now (text_in (codes "token") (fields_of sent.entry.body.now)) ≡ true)) }
 {
     let pairs = fields_of(alloc, sent.body)?;
     let token = text_at(&pairs, "token").as_bytes();
-    if !tokens.accepts(alloc, place.subject(), sent.now, token)? {
-        return Ok(FormStep::Page(outdated_page(alloc, place.address())?));
-    }
     let next = tokens.token_of(alloc, place.subject(), sent.now)?;
+    if !tokens.accepts(alloc, place.subject(), sent.now, token)? {
+        return Ok(FormStep::Page(outdated_page(alloc, place, &pairs, &next)?));
+    }
     take_fields(alloc, place, &pairs, next)
 }
 
@@ -379,7 +486,7 @@ pub(crate) fn fault_told(status: Status, told: Option<&Json>) -> Fault<'_> {
         .and_then(|json| json.as_u64());
     Fault {
         field: field_of(status, code),
-        words: words.unwrap_or("The server couldn't answer."),
+        words: words_of_code(code).unwrap_or(words.unwrap_or("The server couldn't answer.")),
     }
 }
 
@@ -395,12 +502,18 @@ pub(crate) fn page_status(status: Status) -> Status
 
 /// The page of what came of a form's order: that it was done, or the form again with what the answer in JSON says.
 pub fn result_page(alloc: Global, form: &FilledForm, answer: &Answer) -> Result<Answer, AllocError>
-    ensures { IfOk result (IsFormPage (page_status answer.now.status)) }
+    ensures page { IfOk result (IsFormPage (page_status answer.now.status)) }
+    ensures fresh { (answer.now.status ≡ Success) ⊎ (answer.now.status ≡ Created) → IfOk result (λ page. Has (done_part form.now.name.items) page.body.items) }
+    ensures unclear { is_unclear answer.now.status ≡ true → IfOk result (IsUnclear form.now.name.items) }
 {
     if matches!(answer.status, Status::Success | Status::Created) {
         return done_page(alloc, answer.status, form);
     }
     let told = told_in(alloc, answer)?;
+    let status = page_status(answer.status);
+    if answer.status == Status::Conflict && says_gone(&form.draft) {
+        return confirm_page(alloc, status, form, fault_of_gone());
+    }
     let fault = fault_told(answer.status, told.as_ref());
-    confirm_page(alloc, page_status(answer.status), form, fault)
+    confirm_page(alloc, status, form, fault)
 }

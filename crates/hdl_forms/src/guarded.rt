@@ -8,9 +8,10 @@ ghost use Rattle.hdl_forms.specs.Guarded.{CarriesForm, IsAsShown, is_of_shown};
 ghost use Rattle.hdl_forms.specs.Pages.{IsFormPage};
 ghost use Rattle.hdl_forms.specs.Taken.{page_status};
 
+use crate::confirm::conflict_page;
 use crate::draft::{Draft, Task};
 use crate::forms::result_page;
-use crate::pages::{FilledForm, conflict_page};
+use crate::pages::FilledForm;
 use hdl_proxy::Answer;
 use hdl_rest::{ChangeServer, Order, carry_out, value_there};
 use hdl_value::Value;

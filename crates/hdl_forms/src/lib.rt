@@ -5,6 +5,7 @@
 //! GET:  form_question, a server's reply -> edit_page; or new_page
 //! POST: the body -> take_form -> FormStep::Page, or FormStep::Order -> carry_form -> a page
 //! /?list: list_at, list_form; POST: the body -> take_list -> ListStep::Page, or ListStep::Order -> carry_list -> a page
+//! edit_page, the last entries of a history -> with_history: the page with the handle's last changes
 //! ```
 //!
 //! A change takes two forms: the first says what shall stand there, the second shows old and new, and has the key and its secret. A form is taken
@@ -14,7 +15,7 @@
 //! and what they give holds it in the order alone.
 //!
 //! What it promises: `specs/Draft.antt` defines the change that a form says (`draft_in`), `specs/Change.antt` the order that it is, which names that value
-//! alone, and its JSON; `specs/Guarded.antt` that it is carried out only if that value is still as the form showed it ([`carry_form`]); `specs/Token.antt` which tokens are accepted; and `specs/Template.antt` that a page is markup of this crate with text escaped in its holes.
+//! alone, and its JSON; `specs/Guarded.antt` that it is carried out only if that value is still as the form showed it ([`carry_form`]); `specs/Token.antt` which tokens are accepted; `specs/Warnings.antt` of what the page warns that asks for the key; `specs/Confirm.antt` that pages lead to a handle's values as the server has them now; `specs/History.antt` that of the values before a change only those are shown that everyone may read ([`with_history`]); and `specs/Template.antt` that a page is markup of this crate with text escaped in its holes.
 //!
 //! ```rust
 //! // crates/hdl_web/src/change_requests.rt
@@ -23,17 +24,20 @@
 #![tactic(auto)]
 
 mod change;
+mod confirm;
 mod draft;
 mod fault;
 mod form_link;
 mod forms;
 mod guarded;
+mod history;
 mod lists;
 mod markup;
 mod origin;
 mod pages;
 mod template;
 mod token;
+mod warnings;
 
 pub use change::{FormOrder, TypedFault, TypedKey, order_of};
 pub use draft::{Draft, DraftFault, Task, read_draft};
@@ -43,6 +47,7 @@ pub use forms::{
     refuse_cross_origin, refuse_unread, result_page, take_form,
 };
 pub use guarded::carry_form;
+pub use history::{SHOWN_MOST, with_history};
 pub use lists::{
     LIST_ADDRESS, ListRequest, ListStep, carry_list, list_at, list_form, refused_list, take_list,
 };

@@ -5,15 +5,18 @@ ghost use Rattle.hdl_proxy.specs.Query.{pairs_of, texts_of};
 ghost use Rattle.hdl_proxy.specs.declared.answer.Status.{Status};
 ghost use Rattle.hdl_proxy.specs.declared.answer.Status.TheVariants.{Success};
 ghost use Rattle.hdl_rest.specs.Since.{AskedSince};
-ghost use Rattle.hdl_forms.specs.Lists.{AreFew, CarriesList, HasForm, IsForm, IsListOf, IsListOrder, IsListStep, IsRequest, Seeks, Shows, buttons, name_at, place_in, row_at, url_at, with_found, with_list};
+ghost use Rattle.hdl_forms.specs.Lists.{AreFew, CarriesList, HasForm, IsForm, IsListOf, IsListOrder, IsListStep, IsRequest, Seeks, Shows, buttons, foot_template, is_gone_at, name_at, place_in, row_at, row_template, url_at, with_found, with_list, with_prefix, with_words};
 ghost use Rattle.hdl_forms.specs.Pages.{IsFormPage};
 ghost use Rattle.hdl_forms.specs.Taken.{fields_of, page_status, text_in};
 ghost use Rattle.hdl_forms.specs.Token.{accepts};
 
 use crate::change::{TypedKey, key_of};
-use crate::fault::{Fault, Field, NO_FAULT, fault_of_key, fault_of_prefix, fault_of_words};
-use crate::forms::{SentForm, fault_told, fields_of, outdated_page, page_status, text_at, told_in};
-use crate::markup::Template;
+use crate::confirm::with_keys;
+use crate::fault::{
+    Fault, Field, NO_FAULT, fault_of_age, fault_of_key, fault_of_prefix, fault_of_words,
+};
+use crate::forms::{SentForm, fault_told, fields_of, page_status, text_at, told_in};
+use crate::markup::{Template, prefix_template};
 use crate::pages::answer_of;
 use crate::template::{FormPage, Texts};
 use crate::token::TokenKey;
@@ -107,23 +110,40 @@ pub fn list_at(
     Ok(Some(request_in(alloc, tokens, now, &pairs)?))
 }
 
+/// The form of a request up to its prefix, with what is wrong with it.
+fn with_prefix(
+    alloc: Global,
+    request: &ListRequest,
+    fault: Fault<'_>,
+) -> Result<FormPage, AllocError>
+    ensures { IfOk result (λ page. (top at_prefix : _) × (page ≡ with_prefix request.now top at_prefix)) }
+{
+    let top = fault.at(Field::Top);
+    let at_prefix = fault.at(Field::Handle);
+    let texts = Texts::new(alloc).and(request.token.as_slice())?;
+    let texts = texts.and(top)?;
+    let page = FormPage::new(alloc).with(Template::List, texts)?;
+    let texts = Texts::new(alloc).and(request.prefix.as_slice())?;
+    let texts = texts.and(at_prefix)?;
+    page.with(prefix_template(at_prefix), texts)
+}
+
+/// The page with the fields of a request's words.
+fn with_words(alloc: Global, page: FormPage, request: &ListRequest) -> Result<FormPage, AllocError>
+    ensures { IfOk result (λ after. after ≡ with_words page request.now) }
+{
+    let texts = Texts::new(alloc).and(request.name.as_slice())?;
+    let texts = texts.and(request.url.as_slice())?;
+    page.with(Template::Words, texts)
+}
+
 /// The form of a request, up to its buttons, with what is wrong with it.
 fn form_of(alloc: Global, request: &ListRequest, fault: Fault<'_>) -> Result<FormPage, AllocError>
     ensures { IfOk result (λ page. IsForm request.now page) }
 {
-    let top = fault.at(Field::Top);
-    let at_prefix = fault.at(Field::Handle);
-    let at_key = fault.at(Field::Key);
-    let at_secret = fault.at(Field::Secret);
-    let texts = Texts::new(alloc).and(request.token.as_slice())?;
-    let texts = texts.and(top)?;
-    let texts = texts.and(request.prefix.as_slice())?;
-    let texts = texts.and(at_prefix)?;
-    let texts = texts.and(request.name.as_slice())?;
-    let texts = texts.and(request.url.as_slice())?;
-    let texts = texts.and(at_key)?;
-    let texts = texts.and(at_secret)?;
-    FormPage::new(alloc).with(Template::List, texts)
+    let page = with_prefix(alloc, request, fault)?;
+    let page = with_words(alloc, page, request)?;
+    with_keys(alloc, page, fault)
 }
 
 /// The page with the buttons of its form, by one of which the next page is asked for, if there is one.
@@ -150,7 +170,16 @@ fn form_page(
 {
     let form = form_of(alloc, request, fault)?;
     let page = with_buttons(alloc, form, None)?;
-    answer_of(alloc, status, TITLE, b"", page)
+    answer_of(alloc, status, lead_of(fault), TITLE.as_bytes(), page)
+}
+
+/// What the title of a page with this fault begins with.
+fn lead_of(fault: Fault<'_>) -> &'static str {
+    if fault.words.is_empty() {
+        ""
+    } else {
+        "Not done: "
+    }
 }
 
 /// The page with the form of a list, as a request fills it in.
@@ -223,7 +252,7 @@ fn take_fields(alloc: Global, pairs: &[Pair], request: ListRequest) -> Result<Li
     Ok(ListStep::Page(page))
 }
 
-/// What is next for the form of a list of this site: it is refused where its token isn't one of this process for lists, not older than an hour. Then its first fault is shown beside its field.
+/// What is next for the form of a list of this site: it is shown again, filled in as it was, where its token isn't one of this process for lists, not older than an hour. Then its first fault is shown beside its field.
 pub fn take_list(
     alloc: Global,
     tokens: &TokenKey,
@@ -234,10 +263,11 @@ pub fn take_list(
 {
     let pairs = fields_of(alloc, sent.body)?;
     let token = text_at(&pairs, "token").as_bytes();
-    if !tokens.accepts(alloc, SUBJECT, sent.now, token)? {
-        return Ok(ListStep::Page(outdated_page(alloc, LIST_ADDRESS)?));
-    }
     let request = request_in(alloc, tokens, sent.now, &pairs)?;
+    if !tokens.accepts(alloc, SUBJECT, sent.now, token)? {
+        let page = form_page(alloc, Status::Forbidden, &request, fault_of_age())?;
+        return Ok(ListStep::Page(page));
+    }
     take_fields(alloc, &pairs, request)
 }
 
@@ -271,6 +301,27 @@ fn url_at(handles: &[ListedHandle], place: usize) -> &[u8]
     }
 }
 
+/// Whether it is gone.
+fn is_gone_at(handles: &[ListedHandle], place: usize) -> bool
+    ensures { result ≡ is_gone_at handles.now place }
+{
+    match handles.get(place) {
+        Some(handle) => handle.is_gone,
+        None => false,
+    }
+}
+
+/// The template of its row.
+fn row_template(handles: &[ListedHandle], place: usize) -> Template
+    ensures { result ≡ row_template handles.now place }
+{
+    if is_gone_at(handles, place) {
+        Template::GoneRow
+    } else {
+        Template::Row
+    }
+}
+
 /// The page with the row of the handle at this place.
 fn with_row(
     alloc: Global,
@@ -284,7 +335,7 @@ fn with_row(
     let path = path_of(alloc, name)?;
     let texts = Texts::new(alloc).and(path.as_bytes())?;
     let texts = texts.and(name)?.and(url_at(handles, place))?;
-    page.with(Template::Row, texts)
+    page.with(row_template(handles, place), texts)
 }
 
 /// The page with the rows of the handles at these places.
@@ -333,6 +384,16 @@ fn with_found(
     }
 }
 
+/// The template of what is said below a list, of which there is a next page or none.
+fn foot_template(next: Option<usize>) -> Template
+    ensures { result ≡ foot_template next }
+{
+    match next {
+        Some(_) => Template::ListFootNext,
+        None => Template::ListFoot,
+    }
+}
+
 /// The page that shows this part of a list.
 fn shown(
     alloc: Global,
@@ -346,7 +407,7 @@ fn shown(
     let form = form_of(alloc, request, NO_FAULT)?;
     let page = with_buttons(alloc, form, part.next)?;
     let page = with_found(alloc, page, handles, &part.found)?;
-    let page = page.with(Template::ListFoot, Texts::new(alloc))?;
+    let page = page.with(foot_template(part.next), Texts::new(alloc))?;
     answer_of(alloc, Status::Success, TITLE, b"", page)
 }
 

@@ -3,21 +3,17 @@
 ghost use Rattle.std.specs.Prelude.{◌≡◌, IfOk};
 ghost use Rattle.hdl_forms.specs.Pages.{IsFormPage};
 
-use crate::draft::{Draft, Task, are_printed, is_type};
+use crate::draft::{Draft, are_printed, is_type};
 use crate::fault::{Fault, Field, NO_FAULT};
-use crate::markup::Template;
+use crate::markup::{Template, field_template};
 use crate::template::{FormPage, Texts};
-use hdl_limits::Octets;
-use hdl_proxy::{Answer, CacheControl, Media, Status, is_shown, path_of};
+use hdl_proxy::{Answer, CacheControl, Media, Status, is_shown};
 use hdl_value::{HS_GONE, URL, Value};
 use hdl_value_lines::permission_digits;
 use std::alloc::{AllocError, Global};
 
 /// The kind of a TTL that is a moment.
-const ABSOLUTE: u8 = 1;
-
-/// What stands for a value that isn't there.
-const NOTHING: &[u8] = b"(nothing)";
+pub(crate) const ABSOLUTE: u8 = 1;
 
 /// A form that was filled in: which handle, which change of it, and the token of the form that comes next. The key and its secret aren't in it.
 #[derive(Drop)]
@@ -25,6 +21,14 @@ pub struct FilledForm {
     pub name: Vec<u8>,
     pub draft: Draft,
     pub token: Vec<u8>,
+}
+
+/// Of which handle a value's form is, its token, and whether the value is a new one.
+#[derive(Clone, Copy)]
+pub(crate) struct FormOf<'a> {
+    pub(crate) name: &'a [u8],
+    pub(crate) token: &'a [u8],
+    pub(crate) is_new: bool,
 }
 
 /// The texts of a form's fields, as they stand in it.
@@ -61,6 +65,48 @@ pub(crate) fn answer_of(
     Ok(Answer { title, ..answer })
 }
 
+/// A field that is typed: which, what is said of it, what stands in it, an example, and which keys a telephone shows.
+#[derive(Clone, Copy)]
+struct TypedField<'a> {
+    id: &'a [u8],
+    label: &'a [u8],
+    note: &'a [u8],
+    name: &'static str,
+    value: &'a [u8],
+    placeholder: &'static str,
+    keys: &'static str,
+}
+
+/// The text of a value.
+const TEXT: TypedField<'static> = TypedField {
+    id: b"text",
+    label: b"Value",
+    note: b"",
+    name: "text",
+    value: b"",
+    placeholder: "",
+    keys: "text",
+};
+
+/// A field, and what is wrong with it.
+fn with_field(
+    alloc: Global,
+    page: FormPage,
+    field: TypedField<'_>,
+    fault: &[u8],
+) -> Result<FormPage, AllocError> {
+    let id = field.id;
+    let texts = Texts::new(alloc)
+        .and(id)?
+        .and(field.label)?
+        .and(field.note)?;
+    let texts = texts.and(id)?.and(field.name.as_bytes())?;
+    let texts = texts.and(field.value)?.and(field.placeholder.as_bytes())?;
+    let texts = texts.and(field.keys.as_bytes())?.and(id)?;
+    let texts = texts.and(id)?.and(fault)?;
+    page.with(field_template(fault), texts)
+}
+
 /// The form of a value.
 fn with_value(
     alloc: Global,
@@ -69,13 +115,21 @@ fn with_value(
     fields: FieldTexts<'_>,
     fault: Fault<'_>,
 ) -> Result<FormPage, AllocError> {
-    let index = fields.index;
-    let texts = Texts::new(alloc).and(token)?.and(index)?.and(fields.kind)?;
-    let texts = texts.and(fields.ttl)?.and(fields.permissions)?;
-    let texts = texts.and(fields.old)?.and(index)?.and(fields.kind)?;
-    let texts = texts.and(index)?.and(index)?.and(fields.text)?;
-    let texts = texts.and(index)?.and(index)?.and(fault.at(Field::Text))?;
-    page.with(Template::Value, texts)
+    let texts = Texts::new(alloc).and(token)?.and(fields.index)?;
+    let texts = texts.and(fields.kind)?.and(fields.ttl)?;
+    let texts = texts.and(fields.permissions)?.and(fields.old)?;
+    let page = page.with(Template::Value, texts)?;
+    let mut id = Vec::from_slice(alloc, b"text-")?;
+    id.extend_from_slice(fields.index)?;
+    let text = TypedField {
+        id: &id,
+        label: fields.kind,
+        note: fields.index,
+        value: fields.text,
+        ..TEXT
+    };
+    let page = with_field(alloc, page, text, fault.at(Field::Text))?;
+    page.with(Template::ValueButtons, Texts::new(alloc))
 }
 
 /// The form of a new value.
@@ -86,15 +140,34 @@ fn with_new_value(
     fields: FieldTexts<'_>,
     fault: Fault<'_>,
 ) -> Result<FormPage, AllocError> {
-    let texts = Texts::new(alloc).and(token)?;
-    let texts = texts.and(fields.kind)?.and(fault.at(Field::Type))?;
-    let texts = texts.and(fields.index)?.and(fault.at(Field::Index))?;
-    let texts = texts.and(fields.text)?.and(fault.at(Field::Text))?;
-    page.with(Template::Add, texts)
+    let page = page.with(Template::Add, Texts::new(alloc).and(token)?)?;
+    let kind = TypedField {
+        id: b"type",
+        label: b"Type, such as URL or EMAIL",
+        name: "type",
+        value: fields.kind,
+        ..TEXT
+    };
+    let page = with_field(alloc, page, kind, fault.at(Field::Type))?;
+    let index = TypedField {
+        id: b"index",
+        label: b"Index, a number that no value of the handle has",
+        name: "index",
+        value: fields.index,
+        keys: "numeric",
+        ..TEXT
+    };
+    let page = with_field(alloc, page, index, fault.at(Field::Index))?;
+    let text = TypedField {
+        value: fields.text,
+        ..TEXT
+    };
+    let page = with_field(alloc, page, text, fault.at(Field::Text))?;
+    page.with(Template::AddButton, Texts::new(alloc))
 }
 
 /// How long a value may be kept, in seconds.
-fn seconds_of(value: &Value) -> u32 {
+pub(crate) fn seconds_of(value: &Value) -> u32 {
     let [_, a, b, c, d] = value.ttl;
     u32::from_be_bytes([a, b, c, d])
 }
@@ -104,11 +177,10 @@ fn is_line(text: &[u8]) -> bool {
 }
 
 /// Whether a form can say all of a value: everyone may read it, its type and its text are on one line each, and its TTL is a number of seconds.
-fn is_editable(value: &Value) -> bool {
+pub(crate) fn is_editable(value: &Value) -> bool {
     is_shown(value)
         && value.ttl[0] != ABSOLUTE
         && is_type(value.kind.as_slice())
-        && is_line(value.kind.as_slice())
         && is_line(value.bytes.as_slice())
 }
 
@@ -197,7 +269,9 @@ pub(crate) fn values_page(
 ) -> Result<Answer, AllocError>
     ensures { IfOk result (IsFormPage Status.Success) }
 {
-    let page = FormPage::new(alloc).with(Template::Values, Texts::new(alloc).and(name)?)?;
+    let texts = Texts::new(alloc).and(name)?.and(b"")?;
+    let page = FormPage::new(alloc).with(Template::Values, texts)?;
+    let page = page.with(Template::OneAtATime, Texts::new(alloc))?;
     let page = with_values(alloc, page, token, true, values)?;
     let page = with_values(alloc, page, token, false, values)?;
     let page = if values.iter().any(is_editable) {
@@ -212,21 +286,56 @@ pub(crate) fn values_page(
 /// The page with the form of a value that has a fault: a value that is there, or a new one.
 pub(crate) fn faulty_page(
     alloc: Global,
-    name: &[u8],
-    token: &[u8],
-    is_new: bool,
+    status: Status,
+    about: FormOf<'_>,
     texts: FieldTexts<'_>,
     fault: Fault<'_>,
 ) -> Result<Answer, AllocError>
-    ensures { IfOk result (IsFormPage Status.BadRequest) }
+    ensures { IfOk result (IsFormPage status) }
 {
-    let page = FormPage::new(alloc).with(Template::Values, Texts::new(alloc).and(name)?)?;
+    let FormOf {
+        name,
+        token,
+        is_new,
+    } = about;
+    let top = Texts::new(alloc).and(name)?.and(fault.at(Field::Top))?;
+    let page = FormPage::new(alloc).with(Template::Values, top)?;
     let page = if is_new {
         with_new_value(alloc, page, token, texts, fault)?
     } else {
         with_value(alloc, page, token, texts, fault)?
     };
-    answer_of(alloc, Status::BadRequest, "Not done yet: ", name, page)
+    let page = page.with(Template::Back, Texts::new(alloc).and(b"?edit")?)?;
+    answer_of(alloc, status, "Not done: change ", name, page)
+}
+
+/// The form of a new handle, with what is wrong with it.
+fn create_form(
+    alloc: Global,
+    name: &[u8],
+    text: &[u8],
+    token: &[u8],
+    fault: Fault<'_>,
+) -> Result<FormPage, AllocError> {
+    let top = Texts::new(alloc).and(fault.at(Field::Top))?.and(token)?;
+    let page = FormPage::new(alloc).with(Template::Create, top)?;
+    let handle = TypedField {
+        id: b"handle",
+        label: b"Its name: a prefix, a slash and a local name",
+        name: "handle",
+        value: name,
+        placeholder: "10/a",
+        ..TEXT
+    };
+    let page = with_field(alloc, page, handle, fault.at(Field::Handle))?;
+    let url = TypedField {
+        label: b"The address to which it leads",
+        value: text,
+        placeholder: "https://example.org/a",
+        ..TEXT
+    };
+    let page = with_field(alloc, page, url, fault.at(Field::Text))?;
+    page.with(Template::CreateButton, Texts::new(alloc))
 }
 
 /// The page with the form of a new handle.
@@ -240,208 +349,12 @@ pub(crate) fn create_page(
 ) -> Result<Answer, AllocError>
     ensures { IfOk result (IsFormPage status) }
 {
-    let texts = Texts::new(alloc).and(token)?;
-    let texts = texts.and(name)?.and(fault.at(Field::Handle))?;
-    let texts = texts.and(text)?.and(fault.at(Field::Text))?;
-    let page = FormPage::new(alloc).with(Template::Create, texts)?;
-    answer_of(alloc, status, "Create a handle", b"", page)
-}
-
-/// What is asked before a change is made.
-fn question(draft: &Draft) -> &'static str {
-    match draft.task {
-        Task::Change => "Change this value?",
-        Task::Add if draft.kind.as_slice() == HS_GONE => "Say that this handle is gone?",
-        Task::Add => "Add this value?",
-        Task::Remove => "Remove this value?",
-        Task::Create => "Create this handle?",
+    let page = create_form(alloc, name, text, token, fault)?;
+    if fault.words.is_empty() {
+        return answer_of(alloc, status, "Create a handle", b"", page);
     }
-}
-
-/// What is said after it.
-fn done_words(draft: &Draft) -> &'static str {
-    match draft.task {
-        Task::Change => "The value is changed",
-        Task::Add if draft.kind.as_slice() == HS_GONE => "Readers are told that it is gone",
-        Task::Add => "The value is added",
-        Task::Remove => "The value is removed",
-        Task::Create => "The handle is created",
-    }
-}
-
-/// The words of the button that makes a change.
-fn button_word(task: Task) -> &'static str {
-    match task {
-        Task::Change => "Change it",
-        Task::Add => "Add it",
-        Task::Remove => "Remove it",
-        Task::Create => "Create it",
-    }
-}
-
-/// The word by which a form says its task.
-fn task_word(task: Task) -> &'static str {
-    match task {
-        Task::Change => "change",
-        Task::Add => "add",
-        Task::Remove => "remove",
-        Task::Create => "create",
-    }
-}
-
-/// The word of the address of a task's form.
-fn address_word(task: Task) -> &'static str {
-    match task {
-        Task::Create => "new",
-        _ => "edit",
-    }
-}
-
-fn or_nothing(text: &[u8]) -> &[u8] {
-    if text.is_empty() { NOTHING } else { text }
-}
-
-/// What a change is, with what stands there before and after it.
-fn with_change(
-    alloc: Global,
-    heading: &'static str,
-    form: &FilledForm,
-    before: &'static str,
-    after: &'static str,
-) -> Result<FormPage, AllocError> {
-    let draft = &form.draft;
-    let texts = Texts::new(alloc).and(heading.as_bytes())?.and(&form.name)?;
-    let texts = texts.and(draft.kind.as_slice())?.and_number(draft.index)?;
-    let texts = texts.and(before.as_bytes())?;
-    let texts = texts.and(or_nothing(draft.old.as_slice()))?;
-    let texts = texts.and(after.as_bytes())?;
-    let texts = texts.and(or_nothing(draft.text.as_slice()))?;
-    FormPage::new(alloc).with(Template::Shown, texts)
-}
-
-/// The form that asks for the key and its secret.
-fn with_key_fields(
-    alloc: Global,
-    page: FormPage,
-    form: &FilledForm,
-    fault: Fault<'_>,
-) -> Result<FormPage, AllocError> {
-    let draft = &form.draft;
-    let place = address_word(draft.task).as_bytes();
-    let texts = Texts::new(alloc).and(place)?.and(&form.token)?;
-    let texts = texts.and(task_word(draft.task).as_bytes())?;
-    let texts = texts.and_number(draft.index)?.and(draft.kind.as_slice())?;
-    let texts = texts.and_number(draft.ttl)?;
-    let texts = texts.and(&permission_digits(draft.permissions))?;
-    let texts = texts.and(draft.old.as_slice())?.and(draft.text.as_slice())?;
-    let texts = texts.and(&form.name)?.and(fault.at(Field::Top))?;
-    let texts = texts
-        .and(fault.at(Field::Key))?
-        .and(fault.at(Field::Secret))?;
-    let texts = texts.and(button_word(draft.task).as_bytes())?.and(place)?;
-    page.with(Template::Confirm, texts)
-}
-
-/// The page that shows a change before it is made, and asks for the key and its secret.
-pub(crate) fn confirm_page(
-    alloc: Global,
-    status: Status,
-    form: &FilledForm,
-    fault: Fault<'_>,
-) -> Result<Answer, AllocError>
-    ensures { IfOk result (IsFormPage status) }
-{
-    let heading = question(&form.draft);
-    let page = with_change(alloc, heading, form, "Now", "Then")?;
-    let page = with_key_fields(alloc, page, form, fault)?;
-    answer_of(alloc, status, heading, b"", page)
-}
-
-/// The change that can still be made, now that the value isn't as the form showed it: of the same type at least, and one that forms change. If the value is gone, it is added. A value that is gone can't be removed.
-fn draft_of_now(alloc: Global, draft: Draft, there: Option<Value>) -> Option<Draft> {
-    match there {
-        Some(value) if is_editable(&value) && value.kind.as_slice() == draft.kind.as_slice() =>
-            Some(Draft {
-                ttl: seconds_of(&value),
-                permissions: value.permissions,
-                old: value.bytes,
-                ..draft
-            }),
-        None if draft.task == Task::Change => Some(Draft {
-            task: Task::Add,
-            old: Octets::new(Vec::new(alloc)),
-            ..draft
-        }),
-        _ => None,
-    }
-}
-
-/// Whether what is there now is just what the change would put there.
-fn is_made(draft: &Draft, there: Option<&Value>) -> bool {
-    match there {
-        Some(value) => {
-            draft.task == Task::Change
-                && value.kind.as_slice() == draft.kind.as_slice()
-                && value.bytes.as_slice() == draft.text.as_slice()
-                && value.ttl[0] != ABSOLUTE
-                && seconds_of(value) == draft.ttl
-                && value.permissions == draft.permissions
-        }
-        None => draft.task == Task::Remove,
-    }
-}
-
-/// The page of a change whose value someone else changed meanwhile: what the form showed, what is there now, and the change, which can still be made.
-pub(crate) fn conflict_page(
-    alloc: Global,
-    form: FilledForm,
-    there: Option<Value>,
-) -> Result<Answer, AllocError>
-    ensures { IfOk result (IsFormPage Status.Conflict) }
-{
-    let FilledForm { name, draft, token } = form;
-    if is_made(&draft, there.as_ref()) {
-        let why = "The value is so already";
-        let advice = "Nothing was done. Perhaps you sent the form twice.";
-        return refused_page(alloc, Status::Conflict, why, advice, "?edit");
-    }
-    let shown = Vec::from_slice(alloc, draft.old.as_slice())?;
-    let Some(draft) = draft_of_now(alloc, draft, there) else {
-        let why = "Someone else changed this value";
-        let advice = "Nothing was done. It was removed, or is now one that this form can't change.";
-        return refused_page(alloc, Status::Conflict, why, advice, "?edit");
-    };
-    let texts = Texts::new(alloc).and(&name)?;
-    let texts = texts.and(draft.kind.as_slice())?.and_number(draft.index)?;
-    let texts = texts.and(or_nothing(&shown))?;
-    let texts = texts.and(or_nothing(draft.old.as_slice()))?;
-    let texts = texts.and(or_nothing(draft.text.as_slice()))?;
-    let page = FormPage::new(alloc).with(Template::Changed, texts)?;
-    let form = FilledForm { name, draft, token };
-    let page = with_key_fields(alloc, page, &form, NO_FAULT)?;
-    answer_of(
-        alloc,
-        Status::Conflict,
-        "Changed meanwhile: ",
-        &form.name,
-        page,
-    )
-}
-
-/// The page that says that a change was made.
-pub(crate) fn done_page(
-    alloc: Global,
-    status: Status,
-    form: &FilledForm,
-) -> Result<Answer, AllocError>
-    ensures { IfOk result (IsFormPage status) }
-{
-    let heading = done_words(&form.draft);
-    let page = with_change(alloc, heading, form, "Before", "Now")?;
-    let mut path = path_of(alloc, &form.name)?;
-    path.push_str("?noredirect")?;
-    let page = page.with(Template::Done, Texts::new(alloc).and(path.as_bytes())?)?;
-    answer_of(alloc, status, heading, b"", page)
+    let page = page.with(Template::Back, Texts::new(alloc).and(b"/?new")?)?;
+    answer_of(alloc, status, "Not done: create a handle", b"", page)
 }
 
 /// The page of a form that isn't taken: why, what to do, and the address of a new one.

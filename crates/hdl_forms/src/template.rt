@@ -114,6 +114,16 @@ impl FormPage {
         Ok(FormPage { alloc, octets })
     }
 
+    /// The page with another part at its end.
+    pub(crate) fn join(self, part: FormPage) -> Result<FormPage, AllocError>
+        ensures { IfOk result (λ page. page ≡ self ++ part) }
+    {
+        let FormPage { alloc, mut octets } = self;
+        let FormPage { octets: part, .. } = part;
+        octets.extend_from_slice(&part)?;
+        Ok(FormPage { alloc, octets })
+    }
+
     /// The octets so far.
     pub(crate) fn into_octets(self) -> Vec<u8>
         ensures octets { result.items ≡ self }

@@ -10,7 +10,7 @@ use crate::sizes::takes_no_more;
 use hdl_limits::Octets;
 use hdl_name::Name;
 use hdl_rows::reads::{found_octets, names_octets, seen_octets, values_octets, with_call};
-use hdl_rows::{Owed, Owing, Refused, Rows};
+use hdl_rows::{Owed, Owing, Provenance, Refused, Rows};
 use hdl_value::{Reference, Value};
 use std::marker::Model;
 
@@ -134,7 +134,12 @@ impl<R: Owing + Drop, G: Guard + Drop> Rows for GuardedRows<R, G> {
         Ok(names)
     }
 
-    fn create(&mut self, name: &Name, values: &[Value]) -> Result<(), Refused> {
+    fn create(
+        &mut self,
+        name: &Name,
+        values: &[Value],
+        provenance: &Provenance<'_>,
+    ) -> Result<(), Refused> {
         let fingerprint = fingerprint_of_values(Kind::Create, name, values);
         permit(
             &self.rows,
@@ -143,12 +148,17 @@ impl<R: Owing + Drop, G: Guard + Drop> Rows for GuardedRows<R, G> {
             Effect::Takes,
             fingerprint,
         )?;
-        let done = self.rows.create(name, values);
+        let done = self.rows.create(name, values, provenance);
         self.gate.tell(&self.rows, fingerprint, done.is_ok());
         done
     }
 
-    fn add(&mut self, name: &Name, values: &[Value]) -> Result<(), Refused> {
+    fn add(
+        &mut self,
+        name: &Name,
+        values: &[Value],
+        provenance: &Provenance<'_>,
+    ) -> Result<(), Refused> {
         let fingerprint = fingerprint_of_values(Kind::Add, name, values);
         permit(
             &self.rows,
@@ -157,13 +167,18 @@ impl<R: Owing + Drop, G: Guard + Drop> Rows for GuardedRows<R, G> {
             Effect::Takes,
             fingerprint,
         )?;
-        let done = self.rows.add(name, values);
+        let done = self.rows.add(name, values, provenance);
         self.gate.tell(&self.rows, fingerprint, done.is_ok());
         done
     }
 
     /// If the table may not take more, it is checked whether the replaced values have as many octets.
-    fn modify(&mut self, name: &Name, values: &[Value]) -> Result<(), Refused> {
+    fn modify(
+        &mut self,
+        name: &Name,
+        values: &[Value],
+        provenance: &Provenance<'_>,
+    ) -> Result<(), Refused> {
         let fingerprint = fingerprint_of_values(Kind::Modify, name, values);
         if !self.gate.try_pass(&self.rows, Effect::Takes, fingerprint) {
             let held = self.rows.values(name)?;
@@ -175,12 +190,17 @@ impl<R: Owing + Drop, G: Guard + Drop> Rows for GuardedRows<R, G> {
                 fingerprint,
             )?;
         }
-        let done = self.rows.modify(name, values);
+        let done = self.rows.modify(name, values, provenance);
         self.gate.tell(&self.rows, fingerprint, done.is_ok());
         done
     }
 
-    fn remove(&mut self, name: &Name, indexes: &[u32]) -> Result<(), Refused> {
+    fn remove(
+        &mut self,
+        name: &Name,
+        indexes: &[u32],
+        provenance: &Provenance<'_>,
+    ) -> Result<(), Refused> {
         let fingerprint = fingerprint_of_indexes(Kind::Remove, name, indexes);
         permit(
             &self.rows,
@@ -189,12 +209,12 @@ impl<R: Owing + Drop, G: Guard + Drop> Rows for GuardedRows<R, G> {
             Effect::Frees,
             fingerprint,
         )?;
-        let done = self.rows.remove(name, indexes);
+        let done = self.rows.remove(name, indexes, provenance);
         self.gate.tell(&self.rows, fingerprint, done.is_ok());
         done
     }
 
-    fn delete(&mut self, name: &Name) -> Result<(), Refused> {
+    fn delete(&mut self, name: &Name, provenance: &Provenance<'_>) -> Result<(), Refused> {
         let fingerprint = fingerprint_of(Kind::Delete, name);
         permit(
             &self.rows,
@@ -203,7 +223,7 @@ impl<R: Owing + Drop, G: Guard + Drop> Rows for GuardedRows<R, G> {
             Effect::Frees,
             fingerprint,
         )?;
-        let done = self.rows.delete(name);
+        let done = self.rows.delete(name, provenance);
         self.gate.tell(&self.rows, fingerprint, done.is_ok());
         done
     }

@@ -16,7 +16,6 @@
 //! ```rust
 //! // crates/handled/src/serving.rt
 //! let rows = GuardedRows::new(rows, guard);
-//! host_tenants(machine, rt.alloc(), rows, tenants, config, &mut output)?;
 //! ```
 //!
 //! # Decisions

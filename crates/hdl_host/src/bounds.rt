@@ -1,6 +1,6 @@
 //! Bounds of publishers, over any table.
 
-use hdl_boundedrows::{Amount, Bound, BoundObserver};
+use hdl_boundedrows::{Amount, Bound, BoundObserver, Count};
 use hdl_telemetry::{BoundStatus, Notice};
 use std::alloc::{AllocError, Global};
 use std::sync::Arc;
@@ -47,9 +47,10 @@ impl BoundObserver for Notices {
         }
     }
 
-    fn note_held(&mut self, place: usize, held: Amount) {
+    fn note_held(&mut self, place: usize, held: Count) {
+        let Count { handles, amount } = held;
         if let Some(status) = self.all.get(place) {
-            status.set_held(held.values, held.octets);
+            status.set_held(handles, amount.values, amount.octets);
         }
     }
 }

@@ -97,7 +97,7 @@ fn prepare_lanes<R: Net<Listener = TcpListener, Stream = TcpStream> + Clock + Fi
     let (ends, sides) = lanes_of(alloc, tenants.lanes(), RING_ITEMS)?;
     let queue = WriteQueue::with_capacity(alloc, ends.len())?;
     let opened = open_sockets(rt, alloc, tenants, config)?;
-    let monitor = resource_monitor_of(&mut config.monitoring)?;
+    let monitor = resource_monitor_of(alloc, &mut config.monitoring)?;
     Ok(PreparedServer {
         ends,
         sides,

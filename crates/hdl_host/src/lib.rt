@@ -31,6 +31,6 @@ pub use hdl_listeners::{
     AMPLIFY_DEFAULT, HostFault, Limits, Monitoring, REOPEN, STOP, ServerConfig, descriptors_for,
 };
 pub use hdl_sockets::ShutdownFlag;
-pub use hdl_telemetry::{FileChange, FileWatch, Health, Log, LogFile, Notice};
+pub use hdl_telemetry::{FileChange, FileWatch, Health, Log, LogFile, LogKind, LogSender, Notice};
 pub use hosting::{host, host_resumed, host_tenants};
 pub use sharing::{Sharing, host_shared, read_shared};

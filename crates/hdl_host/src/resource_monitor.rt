@@ -4,8 +4,9 @@ use hdl_listeners::Monitoring;
 use hdl_serve::LoopClock;
 use hdl_sockets::MachineClock;
 use hdl_telemetry::{FileWatch, Health, LogFile, ProcessMetrics};
-use std::alloc::AllocError;
+use std::alloc::{AllocError, Global};
 use std::fs::Files;
+use std::mem;
 use std::rt::Clock;
 use std::sync::Arc;
 use std::time::{Duration, Instant};
@@ -13,34 +14,38 @@ use std::time::{Duration, Instant};
 /// Seconds between two looks.
 const PAUSE_SECONDS: u64 = 2;
 
-/// The table's file and that of the log, if there are any, and what is informed of what is seen.
+/// The table's file and those of log and history, if there are any, and what is informed of what is seen.
 #[derive(Drop)]
 pub struct ResourceMonitor {
     file: Option<FileWatch>,
-    log: Option<LogFile>,
+    logs: Vec<LogFile>,
     health: Arc<Health>,
     process_metrics: Arc<ProcessMetrics>,
 }
 
 /// The monitor of the files and of the process.
-pub fn resource_monitor_of(monitoring: &mut Monitoring) -> Result<ResourceMonitor, AllocError> {
+pub fn resource_monitor_of(
+    alloc: Global,
+    monitoring: &mut Monitoring,
+) -> Result<ResourceMonitor, AllocError> {
+    let logs = mem::replace(&mut monitoring.log_files, Vec::new(alloc));
     Ok(ResourceMonitor {
         file: monitoring.file.take(),
-        log: monitoring.log_file.take(),
+        logs,
         health: Arc::try_clone(&monitoring.health)?,
         process_metrics: Arc::try_clone(&monitoring.process_metrics)?,
     })
 }
 
 impl ResourceMonitor {
-    /// Looks at the files and at the process, and opens the log anew if that was asked for.
+    /// Looks at the files and at the process, and opens log and history anew if that was asked for.
     fn check<R: Files>(&mut self, rt: &R) {
         if let Some(file) = &self.file {
             self.health.note_file(file.loss(rt));
             let (octets, log) = file.sizes(rt);
             self.process_metrics.set_sizes(octets, log);
         }
-        if let Some(log) = &mut self.log {
+        for log in self.logs.iter_mut() {
             log.reopen_if_requested();
         }
         self.process_metrics.update(rt);

@@ -47,19 +47,20 @@ pub fn listen<R: Files + Net>(rt: &R, path: &str) -> io::Result<UnixListener> {
 #[derive(Drop)]
 pub struct Control {
     pub shutdown: Arc<ShutdownFlag>,
-    /// How the lines of the log go, if that is a file.
-    pub log: Option<Arc<LogStatus>>,
+    /// How the lines of log and history go, as far as these are files.
+    pub logs: Vec<Arc<LogStatus>>,
 }
 
 impl Control {
-    /// Asks for the file of the log to be opened anew, if there is one. Who asks is answered by no octet then.
+    /// Asks for the files of log and history to be opened anew, if there are any. Who asks is answered by no octet then.
     fn reopen(&self, alloc: Global) -> Response {
-        let said = match &self.log {
-            Some(log) => {
-                log.request_reopen();
-                Ok(Vec::new(alloc))
-            }
-            None => Vec::from_slice(alloc, NO_LOG),
+        for log in self.logs.iter() {
+            log.request_reopen();
+        }
+        let said = if self.logs.is_empty() {
+            Vec::from_slice(alloc, NO_LOG)
+        } else {
+            Ok(Vec::new(alloc))
         };
         match said {
             Ok(octets) => Response::Octets(octets),

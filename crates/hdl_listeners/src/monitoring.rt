@@ -33,9 +33,12 @@ const CHECK_MILLIS: u64 = 20;
 pub struct Monitoring {
     /// What is said on standard error once the server listens.
     pub startup_line: String,
-    /// Where a line of each change goes, and what opens its file anew, if it is one.
+    /// Where a line of each change goes.
     pub log: Option<Log>,
-    pub log_file: Option<LogFile>,
+    /// Where each change goes with the values before.
+    pub history: Option<Log>,
+    /// What opens the files of both anew, as far as they are files.
+    pub log_files: Vec<LogFile>,
     /// Where the status page is had over HTTP.
     pub status: Option<SocketAddr>,
     /// The path of the Unix socket at which words are taken: to end, and to open the log anew.
@@ -62,7 +65,8 @@ impl Monitoring {
         Ok(Monitoring {
             startup_line: String::new(alloc),
             log: None,
-            log_file: None,
+            history: None,
+            log_files: Vec::new(alloc),
             status: None,
             control: None,
             proxied: None,
@@ -102,12 +106,13 @@ impl Monitoring {
     }
 }
 
-/// The sockets at which a server is watched and ended, its log, and what it may have to say.
+/// The sockets at which a server is watched and ended, its log and its history, and what it may have to say.
 #[derive(Drop)]
 pub struct MonitoringSockets {
     status: Option<(TcpListener, StatusPage)>,
     control: Option<(UnixListener, Control)>,
     log: Option<Log>,
+    history: Option<Log>,
     active: ActiveMonitoring,
 }
 
@@ -120,14 +125,14 @@ pub struct ActiveMonitoring {
 }
 
 impl ActiveMonitoring {
-    /// Whether everything is said, and the last lines of the log are written.
+    /// Whether everything is said, and the last lines of log and history are written.
     fn is_reported(&self) -> bool {
-        self.reporter.is_log_written() && !self.reporter.has_due()
+        self.reporter.are_logs_written() && !self.reporter.has_due()
     }
 
     /// Once all lanes have ended: waits until all lines are written, two seconds at most.
     pub fn flush<R: Clock>(&self, rt: &R) {
-        self.reporter.end_log();
+        self.reporter.end_logs();
         for _ in 0..CHECKS_MOST {
             if self.is_reported() {
                 break;
@@ -151,12 +156,39 @@ fn all_counts<C>(
     Ok(all)
 }
 
-/// How the lines of the log go, where there is one.
-fn log_status_of(monitoring: &Monitoring) -> Result<Option<Arc<LogStatus>>, AllocError> {
-    match &monitoring.log {
+/// How the lines of this log go, where there is one.
+fn log_status_of(log: &Option<Log>) -> Result<Option<Arc<LogStatus>>, AllocError> {
+    match log {
         Some(log) => Ok(Some(log.status()?)),
         None => Ok(None),
     }
+}
+
+/// How the lines of log and history go, where there are any.
+fn log_statuses_of(
+    alloc: Global,
+    monitoring: &Monitoring,
+) -> Result<Vec<Arc<LogStatus>>, AllocError> {
+    let mut all = Vec::new(alloc);
+    if let Some(log) = &monitoring.log {
+        all.push(log.status()?)?;
+    }
+    if let Some(history) = &monitoring.history {
+        all.push(history.status()?)?;
+    }
+    Ok(all)
+}
+
+/// How the lines go of those that are files.
+fn file_statuses_of(
+    alloc: Global,
+    monitoring: &Monitoring,
+) -> Result<Vec<Arc<LogStatus>>, AllocError> {
+    let mut all = Vec::new(alloc);
+    for file in monitoring.log_files.iter() {
+        all.push(file.status()?)?;
+    }
+    Ok(all)
 }
 
 /// How the server stands beside others, if others have its table.
@@ -178,36 +210,33 @@ fn page_of<C>(
         health: Arc::try_clone(&monitoring.health)?,
         process_metrics: Arc::try_clone(&monitoring.process_metrics)?,
         bounds: Arc::try_clone(&monitoring.bounds)?,
-        log: log_status_of(monitoring)?,
+        log: log_status_of(&monitoring.log)?,
+        history: log_status_of(&monitoring.history)?,
         beside: standing_of(monitoring)?,
     })
 }
 
 /// What takes the words.
-fn control_of(monitoring: &Monitoring) -> io::Result<Control> {
-    let log = match monitoring.log_file {
-        Some(_) => log_status_of(monitoring)?,
-        None => None,
-    };
+fn control_of(alloc: Global, monitoring: &Monitoring) -> io::Result<Control> {
     Ok(Control {
         shutdown: Arc::try_clone(&monitoring.shutdown)?,
-        log,
+        logs: file_statuses_of(alloc, monitoring)?,
     })
 }
 
 /// What is looked at while the server runs.
-fn active_of(monitoring: &Monitoring) -> io::Result<ActiveMonitoring> {
+fn active_of(alloc: Global, monitoring: &Monitoring) -> io::Result<ActiveMonitoring> {
     Ok(ActiveMonitoring {
         shutdown: Arc::try_clone(&monitoring.shutdown)?,
         reporter: Reporter {
             health: Arc::try_clone(&monitoring.health)?,
             bounds: Arc::try_clone(&monitoring.bounds)?,
-            log: log_status_of(monitoring)?,
+            logs: Arc::new(alloc, log_statuses_of(alloc, monitoring)?)?,
         },
     })
 }
 
-/// Opens the sockets at which a server is watched and ended, and takes its log.
+/// Opens the sockets at which a server is watched and ended, and takes its log and its history.
 pub fn open_monitoring<R: Net<Listener = TcpListener, Stream = TcpStream> + Files, C>(
     rt: &R,
     alloc: Global,
@@ -226,16 +255,17 @@ pub fn open_monitoring<R: Net<Listener = TcpListener, Stream = TcpStream> + File
     };
     let control = match &monitoring.control {
         Some(path) => match listen(rt, path.as_str()) {
-            Ok(listener) => Some((listener, or_device_fault(control_of(monitoring))?)),
+            Ok(listener) => Some((listener, or_device_fault(control_of(alloc, monitoring))?)),
             Err(e) => return Err(HostFault::Control(e.kind())),
         },
         None => None,
     };
-    let active = or_device_fault(active_of(monitoring))?;
+    let active = or_device_fault(active_of(alloc, monitoring))?;
     Ok(MonitoringSockets {
         status,
         control,
         log: monitoring.log.take(),
+        history: monitoring.history.take(),
         active,
     })
 }
@@ -272,11 +302,14 @@ fn start_control<R: Threads + Clock + Copy + Send + Drop + 'static>(
     }
 }
 
-/// Starts the thread that writes the log.
+/// Starts the thread that writes a log, if there is one.
 fn start_log<R: Threads + Clock + Eprint + Copy + Send + Drop + 'static>(
     rt: &R,
-    log: Log,
+    log: Option<Log>,
 ) -> Result<(), Fault> {
+    let Some(log) = log else {
+        return Ok(());
+    };
     let theirs = *rt;
     match thread::spawn(rt, move || {
         let mut log = log;
@@ -302,7 +335,7 @@ fn start_reporter<R: Threads + Clock + Eprint + Copy + Send + Drop + 'static>(
 }
 
 impl MonitoringSockets {
-    /// Starts what answers at these sockets, writes the log and says what is due, on threads that end with the program.
+    /// Starts what answers at these sockets, writes log and history and says what is due, on threads that end with the program.
     pub fn start<R: Threads + Clock + Eprint + Copy + Send + Drop + 'static>(
         self,
         rt: &R,
@@ -312,6 +345,7 @@ impl MonitoringSockets {
             status,
             control,
             log,
+            history,
             active,
         } = self;
         if let Some((listener, page)) = status {
@@ -320,9 +354,8 @@ impl MonitoringSockets {
         if let Some((listener, control)) = control {
             start_control(rt, alloc, listener, control)?;
         }
-        if let Some(log) = log {
-            start_log(rt, log)?;
-        }
+        start_log(rt, log)?;
+        start_log(rt, history)?;
         start_reporter(rt, active.reporter.try_clone()?)?;
         Ok(active)
     }

@@ -10,20 +10,12 @@ use std::time::Duration;
 /// Milliseconds between two looks for what is due.
 const PAUSE_MILLIS: u64 = 50;
 
-/// What may have to be said: of the table, of the bounds of publishers, and of the log, where there is one.
+/// What may have to be said: of the table, of the bounds of publishers, and of log and history, where there are any.
 #[derive(Drop)]
 pub struct Reporter {
     pub health: Arc<Health>,
     pub bounds: Arc<Vec<BoundStatus>>,
-    pub log: Option<Arc<LogStatus>>,
-}
-
-/// A second handle of the log's status, if there is a log.
-fn log_status_clone(status: &Option<Arc<LogStatus>>) -> Result<Option<Arc<LogStatus>>, AllocError> {
-    match status {
-        Some(status) => Ok(Some(Arc::try_clone(status)?)),
-        None => Ok(None),
-    }
+    pub logs: Arc<Vec<Arc<LogStatus>>>,
 }
 
 impl Reporter {
@@ -32,32 +24,27 @@ impl Reporter {
         Ok(Reporter {
             health: Arc::try_clone(&self.health)?,
             bounds: Arc::try_clone(&self.bounds)?,
-            log: log_status_clone(&self.log)?,
+            logs: Arc::try_clone(&self.logs)?,
         })
     }
 
     /// Whether a line is still to be printed.
     pub fn has_due(&self) -> bool {
-        let is_due = self.health.has_due() || self.bounds.iter().any(|bound| bound.notice.is_due());
-        match &self.log {
-            Some(status) => is_due || status.has_due(),
-            None => is_due,
+        self.health.has_due()
+            || self.bounds.iter().any(|bound| bound.notice.is_due())
+            || self.logs.iter().any(|log| log.has_due())
+    }
+
+    /// Notes that no more lines of log and history come.
+    pub fn end_logs(&self) {
+        for log in self.logs.iter() {
+            log.end();
         }
     }
 
-    /// Notes that no more lines of the log come.
-    pub fn end_log(&self) {
-        if let Some(status) = &self.log {
-            status.end();
-        }
-    }
-
-    /// Whether the last lines of the log are written, where there is one.
-    pub fn is_log_written(&self) -> bool {
-        match &self.log {
-            Some(status) => status.is_written(),
-            None => true,
-        }
+    /// Whether the last lines of log and history are written, where there are any.
+    pub fn are_logs_written(&self) -> bool {
+        self.logs.iter().all(|log| log.is_written())
     }
 
     /// Says what is due.
@@ -66,8 +53,8 @@ impl Reporter {
         for bound in self.bounds.iter() {
             bound.notice.print_if_due(rt);
         }
-        if let Some(status) = &self.log {
-            status.print_due(rt);
+        for log in self.logs.iter() {
+            log.print_due(rt);
         }
     }
 }

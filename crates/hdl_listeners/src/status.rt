@@ -28,6 +28,8 @@ pub struct StatusPage {
     pub bounds: Arc<Vec<BoundStatus>>,
     /// How the lines of the log go, where there is one.
     pub log: Option<Arc<LogStatus>>,
+    /// How the lines of the history go, where there is one.
+    pub history: Option<Arc<LogStatus>>,
     /// How the server stands beside the others, if others have its table.
     pub beside: Option<Arc<ClusterStatus>>,
 }
@@ -144,6 +146,18 @@ impl StatusPage {
         )
     }
 
+    /// Puts how many changes aren't in the history, where there is one.
+    fn put_history<W: fmt::Write>(&self, out: &mut W) -> fmt::Result {
+        let Some(history) = &self.history else {
+            return Ok(());
+        };
+        let lost = history.lost();
+        writeln!(
+            out,
+            "# HELP handled_history_lines_lost_total Changes that weren't written into the history.\n# TYPE handled_history_lines_lost_total counter\nhandled_history_lines_lost_total {lost}"
+        )
+    }
+
     /// Puts how the server stands beside the others, if others have its table.
     fn put_standing<W: fmt::Write>(&self, out: &mut W) -> fmt::Result {
         let Some(standing) = &self.beside else {
@@ -194,7 +208,8 @@ impl StatusPage {
         self.put_memory(out)?;
         self.put_standing(out)?;
         self.process_metrics.put(out)?;
-        self.put_log(out)
+        self.put_log(out)?;
+        self.put_history(out)
     }
 
     /// Everything that is counted.

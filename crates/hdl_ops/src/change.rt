@@ -6,7 +6,7 @@ ghost use Rattle.hdl_ops.specs.Tables.{apply, with_timestamp, CanApply};
 
 use hdl_limits::Items;
 use hdl_name::Name;
-use hdl_rows::{Refused, Rows};
+use hdl_rows::{Provenance, Refused, Rows};
 use hdl_value::Value;
 
 /// One write of the table. A name stands for its canonical form.
@@ -36,20 +36,25 @@ fn stamp(values: Items<Value>, moment: u64) -> Vec<Value>
     with_moment(values.into_vec(), moment)
 }
 
-/// Does the change, at a moment in milliseconds, which becomes the timestamp of each value that is written. Refused: the
-/// table is as it was.
-pub fn apply<R: Rows>(rows: &mut R, change: Change, moment: u64) -> Result<(), Refused>
+/// Does the change. The moment of its provenance becomes the timestamp of each value that is written. Refused: the table is
+/// as it was.
+pub fn apply<R: Rows>(
+    rows: &mut R,
+    change: Change,
+    provenance: &Provenance<'_>,
+) -> Result<(), Refused>
     requires can_apply { CanApply (R.content rows.old) change }
-    ensures done { OnOk result (R.content rows.new ≡ apply (R.content rows.old) moment change) }
+    ensures done { OnOk result (R.content rows.new ≡ apply (R.content rows.old) provenance.now.moment change) }
     ensures undone { OnErr result (R.content rows.new ≡ R.content rows.old) }
     ensures count { R.refused rows.new ≡ refusals_after result (R.refused rows.old) }
     ensures reads { R.reads rows.new ≡ R.reads rows.old }
 {
+    let moment = provenance.moment;
     match change {
-        Change::Create { name, values } => rows.create(&name, &stamp(values, moment)),
-        Change::Delete { name } => rows.delete(&name),
-        Change::Add { name, values } => rows.add(&name, &stamp(values, moment)),
-        Change::Remove { name, indexes } => rows.remove(&name, indexes.as_slice()),
-        Change::Modify { name, values } => rows.modify(&name, &stamp(values, moment)),
+        Change::Create { name, values } => rows.create(&name, &stamp(values, moment), provenance),
+        Change::Delete { name } => rows.delete(&name, provenance),
+        Change::Add { name, values } => rows.add(&name, &stamp(values, moment), provenance),
+        Change::Remove { name, indexes } => rows.remove(&name, indexes.as_slice(), provenance),
+        Change::Modify { name, values } => rows.modify(&name, &stamp(values, moment), provenance),
     }
 }

@@ -16,7 +16,7 @@
 //! ```rust
 //! // crates/hdl_tests/src/ops.rt
 //! let values = Items::new(Vec::from_array(rt.alloc(), [value(rt.alloc())?])?);
-//! apply(&mut rows, Change::Create { name, values }, 1000)?;
+//! apply(&mut rows, Change::Create { name, values }, &anyone(1000))?;
 //! let name = Name::read(rt.alloc(), b"10/b")?;
 //! let found = rows.at(&Reference { name, index: 2 })?;
 //! same(&rt, "stamp", found.map(|value| value.timestamp), Some(1000));
@@ -46,7 +46,7 @@ pub use deciding::decide;
 pub use decision::{Decision, HashedRequest, Level, Proof};
 pub use hdl_cache::{Masked, MaskedRows};
 pub use hdl_msg::{Request, read_request};
-pub use hdl_rows::{Refused, Rows};
+pub use hdl_rows::{Agent, Provenance, Refused, Rows};
 pub use hdl_tenants::Tenants;
 pub use owner::Owner;
 pub use rendering::{render, render_challenge};

@@ -6,7 +6,7 @@ use crate::rows::{are, each_call};
 use crate::writes::{create, reference};
 use hdl_cachedrows::{CachedRows, LIMIT_DEFAULT};
 use hdl_name::Name;
-use hdl_rows::{Fuse, PlainRows, Refused, Rows};
+use hdl_rows::{Fuse, PlainRows, Provenance, Refused, Rows};
 use hdl_tests::made::value;
 use hdl_value::Reference;
 use std::alloc::Global;
@@ -44,7 +44,12 @@ fn has_just<R: Rows>(rows: &mut R, place: &Reference, data: &[u8]) -> Result<boo
 /// A refused write forgets the handle too, so a look behind it is refused.
 fn forgets<R: Rows>(rt: &impl Abort, rows: &mut R, name: &Name) -> Result<(), Fail> {
     assert!(rt; rows.exists(name)?);
-    same(rt, "a write", rows.delete(name), Err(Refused));
+    same(
+        rt,
+        "a write",
+        rows.delete(name, &Provenance::opening()),
+        Err(Refused),
+    );
     same(rt, "a look", rows.look(name).is_err(), true);
     same(rt, "refusals", rows.refusals(), 2);
     Ok(())

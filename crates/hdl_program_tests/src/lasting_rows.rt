@@ -5,7 +5,7 @@ use crate::rows::{are, list_handles};
 use crate::writes::{add, create, delete, modify, reference, remove};
 use hdl_durablerows::{DurableRows, FileRows, ShutObserver, TableFault, table_with_file};
 use hdl_name::Name;
-use hdl_rows::{Fuse, Owed, Owing, PlainRows, Rows};
+use hdl_rows::{Fuse, Owed, Owing, PlainRows, Provenance, Rows};
 use hdl_sqlrows::load::Progress;
 use hdl_tests::made::value;
 use hdl_value::Value;
@@ -167,7 +167,7 @@ fn is_made<R: Rows>(rows: &mut R, name: &Name) -> Result<bool, Fail> {
     if rows.exists(name)? {
         return Ok(false);
     }
-    Ok(rows.create(name, &[]).is_ok())
+    Ok(rows.create(name, &[], &Provenance::opening()).is_ok())
 }
 
 /// Asserts whether an absent handle is made, and what is then owed.

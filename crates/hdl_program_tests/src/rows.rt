@@ -5,7 +5,7 @@ use crate::assertion::same;
 use crate::awkward::keeps_fields;
 use crate::writes::{add, create, delete, modify, reference, remove};
 use hdl_name::Name;
-use hdl_rows::{Fuse, PlainRows, Refused, Rows};
+use hdl_rows::{Fuse, PlainRows, Provenance, Refused, Rows};
 use hdl_sqlrows::SqlRows;
 use hdl_tests::made::value;
 use hdl_value::Value;
@@ -251,7 +251,12 @@ fn fuses(rt: HostRuntime) -> Result<(), Fail> {
 /// A refused write leaves the table as it was.
 fn refused_and_made(rt: &impl Abort, fuse: &mut Fuse<PlainRows>, name: &Name) -> Result<(), Fail> {
     assert!(rt; !fuse.exists(name)?);
-    same(rt, "refused", fuse.create(name, &[]), Err(Refused));
+    same(
+        rt,
+        "refused",
+        fuse.create(name, &[], &Provenance::opening()),
+        Err(Refused),
+    );
     create(rt, fuse, name, &[])?;
     same(rt, "made", fuse.exists(name)?, true);
     Ok(())

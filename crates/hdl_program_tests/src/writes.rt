@@ -4,7 +4,7 @@ ghost use Rattle.std.specs.Prelude.{◌≡◌};
 ghost use Rattle.hdl_rows.specs.Table.{AreDistinct, indexes};
 
 use hdl_name::Name;
-use hdl_rows::Rows;
+use hdl_rows::{Provenance, Rows};
 use hdl_value::{Reference, Value};
 use std::alloc::Global;
 use std::process::Abort;
@@ -27,7 +27,7 @@ pub fn create<R: Rows>(
     requires distinct { AreDistinct (indexes values.now) }
 {
     assert!(rt; !rows.exists(name)?);
-    rows.create(name, values)?;
+    rows.create(name, values, &Provenance::opening())?;
     Ok(())
 }
 
@@ -42,7 +42,7 @@ pub fn add<R: Rows>(
 {
     assert!(rt; rows.exists(&place.name)?);
     assert!(rt; rows.at(place)?.is_none());
-    rows.add(&place.name, &[value])?;
+    rows.add(&place.name, &[value], &Provenance::opening())?;
     Ok(())
 }
 
@@ -57,7 +57,7 @@ pub fn modify<R: Rows>(
 {
     assert!(rt; rows.exists(&place.name)?);
     assert!(rt; rows.at(place)?.is_some());
-    rows.modify(&place.name, &[value])?;
+    rows.modify(&place.name, &[value], &Provenance::opening())?;
     Ok(())
 }
 
@@ -65,13 +65,13 @@ pub fn modify<R: Rows>(
 pub fn remove<R: Rows>(rt: &impl Abort, rows: &mut R, place: &Reference) -> Result<(), Fail> {
     assert!(rt; rows.exists(&place.name)?);
     assert!(rt; rows.at(place)?.is_some());
-    rows.remove(&place.name, &[place.index])?;
+    rows.remove(&place.name, &[place.index], &Provenance::opening())?;
     Ok(())
 }
 
 /// Takes away a handle that is there.
 pub fn delete<R: Rows>(rt: &impl Abort, rows: &mut R, name: &Name) -> Result<(), Fail> {
     assert!(rt; rows.exists(name)?);
-    rows.delete(name)?;
+    rows.delete(name, &Provenance::opening())?;
     Ok(())
 }

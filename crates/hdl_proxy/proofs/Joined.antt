@@ -26,6 +26,11 @@ pub seven : (x y1 y2 y3 y4 y5 y6 y7 a1 a2 a3 a4 a5 a6 a7 : List ℕ) → y1 ≡ 
 seven x y1 y2 y3 y4 y5 y6 y7 a1 a2 a3 a4 a5 a6 a7 e1 e2 e3 e4 e5 e6 e7 =
     two x y1 y7 a1 (a2 ++ (a3 ++ (a4 ++ (a5 ++ (a6 ++ a7))))) e1 (six y1 y2 y3 y4 y5 y6 y7 a2 a3 a4 a5 a6 a7 e2 e3 e4 e5 e6 e7)
 
+pub eight : (x y1 y2 y3 y4 y5 y6 y7 y8 a1 a2 a3 a4 a5 a6 a7 a8 : List ℕ) → y1 ≡ x ++ a1 → y2 ≡ y1 ++ a2 → y3 ≡ y2 ++ a3 → y4 ≡ y3 ++ a4 → y5 ≡ y4 ++ a5 → y6 ≡ y5 ++ a6 → y7 ≡ y6 ++ a7 → y8 ≡ y7 ++ a8
+    → y8 ≡ x ++ (a1 ++ (a2 ++ (a3 ++ (a4 ++ (a5 ++ (a6 ++ (a7 ++ a8)))))))
+eight x y1 y2 y3 y4 y5 y6 y7 y8 a1 a2 a3 a4 a5 a6 a7 a8 e1 e2 e3 e4 e5 e6 e7 e8 =
+    two x y1 y8 a1 (a2 ++ (a3 ++ (a4 ++ (a5 ++ (a6 ++ (a7 ++ a8)))))) e1 (seven y1 y2 y3 y4 y5 y6 y7 y8 a2 a3 a4 a5 a6 a7 a8 e2 e3 e4 e5 e6 e7 e8)
+
 -- the text that was put is this one
 pub said : (x y t s : List ℕ) → y ≡ x ++ escaped t → t ≡ s → y ≡ x ++ escaped s
 said x y t s e same = e ∙ ap (λ (u : List ℕ). x ++ escaped u) same

@@ -3,6 +3,7 @@ use Rattle.std.proofs.Common.{◌≡◌, ◌≢◌, ℕ, Bool, true, false, cond
 use Rattle.std.specs.Global.{Global}
 use Rattle.std.specs.Prelude.{codes}
 use Rattle.std.proofs.lemmas.List.Elements.{All-append, All-cons}
+use Rattle.hdl_languages.specs.declared.language.Language.{Language}
 use Rattle.hdl_value.specs.declared.value.Value.{Value}
 use Rattle.hdl_proxy.specs.Answer.{LeadsTo, Tells, IsLocated, IsWayAt, IsWayBy, IsWayFrom, IsWayOf, IsWayOfValue, IsWayToMeant, Follows, FollowsUnless, Goes, ShowsValues, ShowsFound}
 use Rattle.hdl_proxy.specs.Link.{IsLink, address_of, path_to, path_to_json, path_to_values}
@@ -95,20 +96,20 @@ from_graphic : (values : List Value) (append locatt to : List ℕ) (place : Opti
 from_graphic values append locatt to None wrong w = url_graphic values append to wrong w
 from_graphic values append locatt to (Some place) wrong w = place_graphic values append locatt to place wrong w
 
-goes_located : (handle append locatt : List ℕ) (values : List Value) (way : Option (List ℕ)) (wrong : Note) (a : Answer) → IsWayFrom values append locatt way wrong → Goes handle values way wrong a → IsLocated a
-goes_located handle append locatt values None wrong a w h = tells_located status.Success _ a (λ e. cc) h.told
-goes_located handle append locatt values (Some to) wrong a w h = leads_located handle to a (from_graphic values append locatt to w.0 wrong w.1.1) h.leads
+goes_located : (language : Language) (handle append locatt : List ℕ) (values : List Value) (way : Option (List ℕ)) (wrong : Note) (a : Answer) → IsWayFrom values append locatt way wrong → Goes language handle values way wrong a → IsLocated a
+goes_located language handle append locatt values None wrong a w h = tells_located status.Success _ a (λ e. cc) h.told
+goes_located language handle append locatt values (Some to) wrong a w h = leads_located handle to a (from_graphic values append locatt to w.0 wrong w.1.1) h.leads
 
-follows_located : (handle append locatt : List ℕ) (values : List Value) (a : Answer) → Follows handle append locatt values a → IsLocated a
-follows_located handle append locatt values a h = goes_located handle append locatt values h.0 h.1 a h.2.0 h.2.1
+follows_located : (language : Language) (handle append locatt : List ℕ) (values : List Value) (a : Answer) → Follows language handle append locatt values a → IsLocated a
+follows_located language handle append locatt values a h = goes_located language handle append locatt values h.0 h.1 a h.2.0 h.2.1
 
-unless_located : (gone : Option Value) (handle append locatt : List ℕ) (values : List Value) (a : Answer) → FollowsUnless gone handle append locatt values a → IsLocated a
-unless_located None handle append locatt values a h = follows_located handle append locatt values a h
-unless_located (Some gone) handle append locatt values a h = tells_located status.Gone _ a (λ e. cc) h.told
+unless_located : (gone : Option Value) (language : Language) (handle append locatt : List ℕ) (values : List Value) (a : Answer) → FollowsUnless gone language handle append locatt values a → IsLocated a
+unless_located None language handle append locatt values a h = follows_located language handle append locatt values a h
+unless_located (Some gone) language handle append locatt values a h = tells_located status.Gone _ a (λ e. cc) h.told
 
 values_located : (form : AnswerFormat) (handle append locatt : List ℕ) (values : List Value) (a : Answer) → ShowsValues form handle append locatt values a → IsLocated a
-values_located Follow handle append locatt values a h = unless_located h.0 handle append locatt values a h.1.1
-values_located Page handle append locatt values a h = tells_located status.Success _ a (λ e. cc) h.told
+values_located (Follow language) handle append locatt values a h = unless_located h.0 language handle append locatt values a h.1.1
+values_located (Page language) handle append locatt values a h = tells_located status.Success _ a (λ e. cc) h.told
 values_located Json handle append locatt values a h = tells_located status.Success _ a (λ e. cc) h.told
 values_located Pretty handle append locatt values a h = tells_located status.Success _ a (λ e. cc) h.told
 

@@ -3,7 +3,11 @@ use Rattle.std.specs.Prelude.{◌≡◌, ◌≢◌, ◌⊎◌, ◌++◌, ℕ, Bo
 use Rattle.std.specs.Borrow.{Bor}
 use Rattle.hdl_value.specs.declared.value.Value.{Value}
 use Rattle.serde_json.specs.Written.{compact_text}
+use Rattle.hdl_languages.specs.Words.{words}
+use Rattle.hdl_languages.specs.declared.language.Language.{Language}
+use Rattle.hdl_languages.specs.declared.phrase.Phrase.TheVariants as phrases
 use Rattle.hdl_proxy.specs.Choice.{IsFirstOf, IsFirstUrl}
+use Rattle.hdl_proxy.specs.Format.{language_of}
 use Rattle.hdl_proxy.specs.Found.{IsFoundOf}
 use Rattle.hdl_proxy.specs.Json.{refusal_json, IsJsonOf, IsPrettyOf}
 use Rattle.hdl_proxy.specs.CacheControl.{IsCacheControlOf}
@@ -95,25 +99,25 @@ IsWayFrom values append locatt way wrong =
 
 -- JSON where it was asked for, and else a page
 abbrev pub media_of : AnswerFormat → Media
-media_of Follow = media.Page
-media_of Page = media.Page
+media_of (Follow language) = media.Page
+media_of (Page language) = media.Page
 media_of Json = media.Json
 media_of Pretty = media.Json
 
 abbrev pub is_json : AnswerFormat → Bool
-is_json Follow = false
-is_json Page = false
+is_json (Follow language) = false
+is_json (Page language) = false
 is_json Json = true
 is_json Pretty = true
 
 -- A page, or JSON without a space or over many lines, of this handle and these values, and of nothing else; a page says what is wrong too. Others may
 -- keep it as long as each of these values.
-pub record IsPage (handle : List ℕ) (wrong : Note) (values : List Value) (answer : Answer) : Type 0 where
+pub record IsPage (language : Language) (handle : List ℕ) (wrong : Note) (values : List Value) (answer : Answer) : Type 0 where
   pub told : Tells status.Success media.Page answer
   pub kept : IsCacheControlOf values answer.cache_control
   pub about : option_map string_bytes answer.about ≡ Some (name_in_address handle)
   pub title : answer.title.items ≡ handle
-  pub body : IsPageOf handle wrong values answer.body.items
+  pub body : IsPageOf language handle wrong values answer.body.items
 
 pub record IsJson (handle : List ℕ) (values : List Value) (answer : Answer) : Type 0 where
   pub told : Tells status.Success media.Json answer
@@ -131,47 +135,47 @@ pub record LeadsBy (handle : List ℕ) (values : List Value) (to : List ℕ) (an
   pub kept : IsCacheControlOf values answer.cache_control
 
 -- it goes this way, and where there is none it is a page of the values that says what is wrong
-abbrev pub Goes : List ℕ → List Value → Option (List ℕ) → Note → Answer → Type 0
-Goes handle values None wrong answer = IsPage handle wrong values answer
-Goes handle values (Some to) wrong answer = LeadsBy handle values to answer
+abbrev pub Goes : Language → List ℕ → List Value → Option (List ℕ) → Note → Answer → Type 0
+Goes language handle values None wrong answer = IsPage language handle wrong values answer
+Goes language handle values (Some to) wrong answer = LeadsBy handle values to answer
 
 -- A page that says when the handle went, and why, and of these values nothing else. Others may keep it as long as each of these values.
-pub record IsGone (handle : List ℕ) (gone : Value) (values : List Value) (answer : Answer) : Type 0 where
+pub record IsGone (language : Language) (handle : List ℕ) (gone : Value) (values : List Value) (answer : Answer) : Type 0 where
   pub told : Tells status.Gone media.Page answer
   pub kept : IsCacheControlOf values answer.cache_control
   pub about : option_map string_bytes answer.about ≡ Some (name_in_address handle)
-  pub title : answer.title.items ≡ codes "Gone: " ++ handle
-  pub body : IsGonePage handle gone answer.body.items
+  pub title : answer.title.items ≡ words language phrases.GoneTitle ++ handle
+  pub body : IsGonePage language handle gone answer.body.items
 
 -- the way from these values, with this behind their URL or to the location with this attribute, where there is one, and else all of them
-abbrev pub Follows : List ℕ → List ℕ → List ℕ → List Value → Answer → Type 0
-Follows handle append locatt values answer =
-    (way : Option (List ℕ)) × (wrong : Note) × (IsWayFrom values append locatt way wrong × Goes handle values way wrong answer)
+abbrev pub Follows : Language → List ℕ → List ℕ → List ℕ → List Value → Answer → Type 0
+Follows language handle append locatt values answer =
+    (way : Option (List ℕ)) × (wrong : Note) × (IsWayFrom values append locatt way wrong × Goes language handle values way wrong answer)
 
 -- the same, unless a value says that the handle is gone
-abbrev pub FollowsUnless : Option Value → List ℕ → List ℕ → List ℕ → List Value → Answer → Type 0
-FollowsUnless None handle append locatt values answer = Follows handle append locatt values answer
-FollowsUnless (Some gone) handle append locatt values answer = IsGone handle gone values answer
+abbrev pub FollowsUnless : Option Value → Language → List ℕ → List ℕ → List ℕ → List Value → Answer → Type 0
+FollowsUnless None language handle append locatt values answer = Follows language handle append locatt values answer
+FollowsUnless (Some gone) language handle append locatt values answer = IsGone language handle gone values answer
 
 -- in this form these values: where they are to be followed, that they are gone where one says so, and else where they lead
 abbrev pub ShowsValues : AnswerFormat → List ℕ → List ℕ → List ℕ → List Value → Answer → Type 0
-ShowsValues Follow handle append locatt values answer =
-    (gone : Option Value) × (IsFirstOf (codes "HS_GONE") values gone × FollowsUnless gone handle append locatt values answer)
-ShowsValues Page handle append locatt values answer = IsPage handle note.Nothing values answer
+ShowsValues (Follow language) handle append locatt values answer =
+    (gone : Option Value) × (IsFirstOf (codes "HS_GONE") values gone × FollowsUnless gone language handle append locatt values answer)
+ShowsValues (Page language) handle append locatt values answer = IsPage language handle note.Nothing values answer
 ShowsValues Json handle append locatt values answer = IsJson handle values answer
 ShowsValues Pretty handle append locatt values answer = IsPretty handle values answer
 
 -- the page, or the JSON, that says why there are no values
 abbrev pub refusal_body : AnswerFormat → List ℕ → ℕ → List ℕ → List ℕ
-refusal_body Follow handle code why = refusal_page handle code why
-refusal_body Page handle code why = refusal_page handle code why
+refusal_body (Follow language) handle code why = refusal_page language handle code why
+refusal_body (Page language) handle code why = refusal_page language handle code why
 refusal_body Json handle code why = compact_text (refusal_json handle code why)
 refusal_body Pretty handle code why = compact_text (refusal_json handle code why)
 
 -- the title of a page that refuses; JSON has none
 abbrev pub title_in : AnswerFormat → ℕ → List ℕ → List ℕ
-title_in Follow code handle = refusal_title code handle
-title_in Page code handle = refusal_title code handle
+title_in (Follow language) code handle = refusal_title language code handle
+title_in (Page language) code handle = refusal_title language code handle
 title_in Json code handle = []
 title_in Pretty code handle = []
 
@@ -185,8 +189,8 @@ pub record Refuses (given : Status) (form : AnswerFormat) (handle : List ℕ) (c
 -- in this form what was found: values, or the status of a code, or that no server answered
 abbrev pub ShowsFound : AnswerFormat → List ℕ → List ℕ → List ℕ → Found → Answer → Type 0
 ShowsFound form handle append locatt (Values values) answer = ShowsValues form handle append locatt values.items answer
-ShowsFound form handle append locatt (Refused code) answer = Refuses (status_of_code code) form handle (reported_code code) (refused_words code) answer
-ShowsFound form handle append locatt Nothing answer = Refuses status.BadGateway form handle 2 (codes "No server answered.") answer
+ShowsFound form handle append locatt (Refused code) answer = Refuses (status_of_code code) form handle (reported_code code) (words (language_of form) (refused_words code)) answer
+ShowsFound form handle append locatt Nothing answer = Refuses status.BadGateway form handle 2 (words (language_of form) phrases.NoServerAnswered) answer
 
 -- it answers the question by what was found of its handle in what a resolver gave, and by nothing else
 abbrev pub Answers : Question → Result (Bor (List ℕ)) NoAnswer → Answer → Type 0

@@ -6,7 +6,12 @@ use Rattle.hdl_name.specs.Fault.{IsFaultOf}
 use Rattle.hdl_name.specs.Name.{IsHandle}
 use Rattle.hdl_name.specs.declared.fault.NameFault.{NameFault}
 use Rattle.hdl_name.specs.declared.fault.NameFault.TheVariants.{TooLong, NotUtf8, NoSlash, BadSegment, Memory}
+use Rattle.hdl_languages.specs.Words.{words}
+use Rattle.hdl_languages.specs.declared.language.Language.{Language}
+use Rattle.hdl_languages.specs.declared.phrase.Phrase.{Phrase}
+use Rattle.hdl_languages.specs.declared.phrase.Phrase.TheVariants as phrases
 use Rattle.hdl_proxy.specs.Answer.{LeadsTo, Refuses, Tells, IsLocated, is_json}
+use Rattle.hdl_proxy.specs.Format.{language_of}
 use Rattle.hdl_proxy.specs.Link.{path_to}
 use Rattle.hdl_proxy.specs.Pasted.{IsPasted, IsWritten, between_spaces}
 use Rattle.hdl_proxy.specs.Query.{IsAppended, IsIndex, IsLast, IsLocatt, has_pair, index_of, values_named}
@@ -41,20 +46,20 @@ IsReading method = (method ≡ codes "GET") ⊎ (method ≡ codes "HEAD")
 -- ---- refusals
 
 -- that a name is none, and why, by its fault
-abbrev pub fault_sentence : NameFault → List ℕ
-fault_sentence TooLong = codes "This is no handle: the name is too long."
-fault_sentence NotUtf8 = codes "This is no handle: the name is not UTF-8."
-fault_sentence NoSlash = codes "This is no handle: the name has no slash."
-fault_sentence BadSegment = codes "This is no handle: the name has a bad segment."
-fault_sentence Memory = codes "This is no handle: no memory for the name."
+abbrev pub fault_sentence : NameFault → Phrase
+fault_sentence TooLong = phrases.NameTooLong
+fault_sentence NotUtf8 = phrases.NameNotUtf8
+fault_sentence NoSlash = phrases.NameWithoutSlash
+fault_sentence BadSegment = phrases.NameOfBadSegment
+fault_sentence Memory = phrases.NameWithoutMemory
 
 -- the sentence of the first fault that this name has
-abbrev pub IsFaultSentence : List ℕ → List ℕ → Type 0
-IsFaultSentence name why = (fault : NameFault) × (IsFaultOf name fault × (why ≡ fault_sentence fault))
+abbrev pub IsFaultSentence : Language → List ℕ → List ℕ → Type 0
+IsFaultSentence language name why = (fault : NameFault) × (IsFaultOf name fault × (why ≡ words language (fault_sentence fault)))
 
 -- this name, which is none, is refused in this form
 abbrev pub RefusesName : AnswerFormat → List ℕ → Reply → Type 0
-RefusesName form name answer = (why : List ℕ) × (IsFaultSentence name why × Refuses status.BadRequest form name INVALID_HANDLE why answer)
+RefusesName form name answer = (why : List ℕ) × (IsFaultSentence (language_of form) name why × Refuses status.BadRequest form name INVALID_HANDLE why answer)
 
 -- what is told of the name that the path means: its octets where they are text, and else the path, as it was sent
 abbrev pub asked_text : List ℕ → List ℕ → List ℕ
@@ -67,24 +72,24 @@ RefusesRequest form name sent why answer = Refuses status.BadRequest form (asked
 -- ---- the front page
 
 -- the way to its own address, which nobody may keep, and where it is no name a page that says so
-abbrev pub LeadsToName : List ℕ → Reply → Type 0
-LeadsToName name answer =
+abbrev pub LeadsToName : Language → List ℕ → Reply → Type 0
+LeadsToName language name answer =
     (IsHandle name × LeadsTo name (path_to name) answer × (answer.cache_control ≡ Never))
-    ⊎ (¬ (IsHandle name) × RefusesName Page name answer)
+    ⊎ (¬ (IsHandle name) × RefusesName (Page language) name answer)
 
 -- the way to the name that was pasted at a site with this address; spaces at its ends, and at those of all that was pasted, don't count
-abbrev pub LeadsFromPasted : Option (List ℕ) → List ℕ → Reply → Type 0
-LeadsFromPasted own sent answer = (name : List ℕ) × (IsPasted own (between_spaces sent) name × LeadsToName (between_spaces name) answer)
+abbrev pub LeadsFromPasted : Language → Option (List ℕ) → List ℕ → Reply → Type 0
+LeadsFromPasted language own sent answer = (name : List ℕ) × (IsPasted own (between_spaces sent) name × LeadsToName language (between_spaces name) answer)
 
 -- without a handle a page, and with one the way to it
-abbrev pub LeadsFrom : Option (List ℕ) → Option (List ℕ) → Reply → Type 0
-LeadsFrom own None answer = Tells status.Success media.Page answer
-LeadsFrom own (Some sent) answer = LeadsFromPasted own sent answer
+abbrev pub LeadsFrom : Language → Option (List ℕ) → Option (List ℕ) → Reply → Type 0
+LeadsFrom language own None answer = Tells status.Success media.Page answer
+LeadsFrom language own (Some sent) answer = LeadsFromPasted language own sent answer
 
 -- the handle is that of the last pair `handle`
-abbrev pub IsFront : Option (List ℕ) → List (List ℕ × List ℕ) → Next → Type 0
-IsFront own pairs next =
-    (last : Option (List ℕ)) × (IsLast (values_named (codes "handle") pairs) last × IsAnswered (LeadsFrom own last) next)
+abbrev pub IsFront : Language → Option (List ℕ) → List (List ℕ × List ℕ) → Next → Type 0
+IsFront language own pairs next =
+    (last : Option (List ℕ)) × (IsLast (values_named (codes "handle") pairs) last × IsAnswered (LeadsFrom language own last) next)
 
 -- ---- which addresses there are
 
@@ -154,12 +159,12 @@ IsNoHandle path answer =
 
 -- that method is refused in this form
 abbrev pub RefusesMethodIn : AnswerFormat → List ℕ → Reply → Type 0
-RefusesMethodIn form path answer = Refuses status.MethodNotAllowed form path OPERATION_DENIED (codes "Use GET or HEAD to read a handle.") answer
+RefusesMethodIn form path answer = Refuses status.MethodNotAllowed form path OPERATION_DENIED (words (language_of form) phrases.OtherMethod) answer
 
 -- another method is refused, by a page or under `/api/` in JSON; OPTIONS is answered there
-abbrev pub RefusesMethod : List ℕ → List ℕ → Reply → Type 0
-RefusesMethod method path answer =
-    (¬ (IsUnder api_path path) × RefusesMethodIn Page path answer)
+abbrev pub RefusesMethod : Language → List ℕ → List ℕ → Reply → Type 0
+RefusesMethod language method path answer =
+    (¬ (IsUnder api_path path) × RefusesMethodIn (Page language) path answer)
     ⊎ (IsUnder api_path path × (method ≡ codes "OPTIONS") × IsBare answer)
     ⊎ (IsUnder api_path path × (method ≢ codes "OPTIONS") × RefusesMethodIn Json path answer)
 
@@ -171,8 +176,8 @@ without_slash [] = []
 without_slash (octet ∷ rest) = if octet == 47 then rest else octet ∷ rest
 
 -- a page where the query has `noredirect`, and else the way
-abbrev pub page_form : List (List ℕ × List ℕ) → AnswerFormat
-page_form pairs = if has_pair (codes "noredirect") pairs then Page else Follow
+abbrev pub page_form : Language → List (List ℕ × List ℕ) → AnswerFormat
+page_form language pairs = if has_pair (codes "noredirect") pairs then Page language else Follow language
 
 -- JSON over many lines where the query has `pretty`, and else without a space
 abbrev pub json_form : List (List ℕ × List ℕ) → AnswerFormat
@@ -192,15 +197,15 @@ IsMeant path sent name =
     (sent ≡ without_slash path) × ((text : List ℕ) × (IsWritten sent text × (name ≡ between_spaces (percent_decode text))))
 
 -- the form that an address asks for, the part of its path that was sent for a name, and the name: JSON where the path begins so, and else a page or the way
-abbrev pub IsAddress : List ℕ → List (List ℕ × List ℕ) → AnswerFormat → List ℕ → List ℕ → Type 0
-IsAddress path pairs form sent name =
+abbrev pub IsAddress : Language → List ℕ → List (List ℕ × List ℕ) → AnswerFormat → List ℕ → List ℕ → Type 0
+IsAddress language path pairs form sent name =
     ((form ≡ json_form pairs) × IsExact path sent name)
-    ⊎ ((form ≡ page_form pairs) × ¬ (IsUnder api_path path) × IsMeant path sent name)
+    ⊎ ((form ≡ page_form language pairs) × ¬ (IsUnder api_path path) × IsMeant path sent name)
 
 -- aliases are followed where a URL is, unless the query has `ignore_aliases`
 abbrev pub is_way : AnswerFormat → Bool
-is_way Follow = true
-is_way Page = false
+is_way (Follow language) = true
+is_way (Page language) = false
 is_way Json = false
 is_way Pretty = false
 
@@ -232,8 +237,8 @@ pub record IsAsked (asked : List ℕ) (wanted : AnswerFormat) (pairs : List (Lis
 abbrev pub IsReason : List ℕ → AnswerFormat → List (List ℕ × List ℕ) → List ℕ → Type 0
 IsReason name form pairs why =
     ((is_called_back form pairs ≡ true) × (why ≡ codes "callback is refused: pages of any site may read this JSON without it."))
-    ⊎ (¬ (All IsIndex (values_named (codes "index") pairs)) × (why ≡ codes "An index is a number below 4294967296."))
-    ⊎ (¬ (IsHandle name) × IsFaultSentence name why)
+    ⊎ (¬ (All IsIndex (values_named (codes "index") pairs)) × (why ≡ words (language_of form) phrases.BadIndex))
+    ⊎ (¬ (IsHandle name) × IsFaultSentence (language_of form) name why)
 
 -- the name that was sent so is asked for, or where there is a reason the request is refused
 abbrev pub AsksFor : List ℕ → List ℕ → AnswerFormat → List (List ℕ × List ℕ) → Next → Type 0
@@ -241,6 +246,6 @@ AsksFor sent name form pairs (Ask question) = IsAsked name form pairs question
 AsksFor sent name form pairs (Answer answer) = (why : List ℕ) × (IsReason name form pairs why × RefusesRequest form name sent why answer)
 
 -- it asks in this form for this name
-abbrev pub AsksAddress : List ℕ → List (List ℕ × List ℕ) → Next → Type 0
-AsksAddress path pairs next =
-    (form : AnswerFormat) × (sent : List ℕ) × (name : List ℕ) × (IsAddress path pairs form sent name × AsksFor sent name form pairs next)
+abbrev pub AsksAddress : Language → List ℕ → List (List ℕ × List ℕ) → Next → Type 0
+AsksAddress language path pairs next =
+    (form : AnswerFormat) × (sent : List ℕ) × (name : List ℕ) × (IsAddress language path pairs form sent name × AsksFor sent name form pairs next)

@@ -1,8 +1,11 @@
 -- Which other handle may be meant by the name of one that isn't there.
-use Rattle.std.specs.Prelude.{◌≡◌, ◌⊎◌, ℕ, Bool, eqb, false, List, [], ◌∷◌, ◌++◌, Option, Some, None, codes, if◌then◌else◌, reverse}
+use Rattle.std.specs.Prelude.{◌≡◌, ◌⊎◌, ℕ, Bool, eqb, false, List, [], ◌∷◌, ◌++◌, Option, Some, None, if◌then◌else◌, reverse}
 use Rattle.std.specs.List.{list_any}
 use Rattle.std.specs.Str.{str_to_ascii_lowercase, str_to_ascii_uppercase}
 use Rattle.hdl_name.specs.Name.{IsHandle}
+use Rattle.hdl_languages.specs.Words.{words}
+use Rattle.hdl_languages.specs.declared.language.Language.{Language}
+use Rattle.hdl_languages.specs.declared.phrase.Phrase.TheVariants as phrases
 use Rattle.hdl_proxy.specs.Alias.{is_among}
 use Rattle.hdl_proxy.specs.Answer.{Tells}
 use Rattle.hdl_proxy.specs.Pages.{advice_part, meant_part, name_part, refusal_title, top}
@@ -46,12 +49,13 @@ IsGuess tried asked guess = IsFirstOther tried (meant_by asked) guess
 -- ---- the page
 
 -- that the handle isn't there, which one may be meant, if one is, and what to do
-unfoldable pub missing_page : List ℕ → Option (List ℕ) → List ℕ
-missing_page asked meant = top (codes "This handle isn't there.") ++ (name_part asked ++ (meant_part meant ++ advice_part HANDLE_NOT_FOUND asked))
+unfoldable pub missing_page : Language → List ℕ → Option (List ℕ) → List ℕ
+missing_page language asked meant =
+    top (words language phrases.NotThere) ++ (name_part asked ++ (meant_part language meant ++ advice_part language HANDLE_NOT_FOUND asked))
 
 -- a page that says so, which nobody may keep
-pub record IsMissing (asked : List ℕ) (meant : Option (List ℕ)) (answer : Reply) : Type 0 where
+pub record IsMissing (language : Language) (asked : List ℕ) (meant : Option (List ℕ)) (answer : Reply) : Type 0 where
   pub told : Tells status.NotFound media.Page answer
   pub kept : answer.cache_control ≡ Never
-  pub title : answer.title.items ≡ refusal_title HANDLE_NOT_FOUND asked
-  pub body : answer.body.items ≡ missing_page asked meant
+  pub title : answer.title.items ≡ refusal_title language HANDLE_NOT_FOUND asked
+  pub body : answer.body.items ≡ missing_page language asked meant

@@ -22,3 +22,5 @@ pub mod Tag
 pub mod Url
 pub mod Words
 pub mod Xml
+pub mod Phrases
+pub mod Format

@@ -1,13 +1,19 @@
 -- What a page says above a handle's values.
-use Rattle.std.specs.Prelude.{ℕ, List, []}
+use Rattle.std.specs.Prelude.{ℕ, List, [], codes}
+use Rattle.hdl_languages.specs.declared.language.Language.{Language}
+use Rattle.hdl_languages.specs.declared.phrase.Phrase.{Phrase}
+use Rattle.hdl_languages.specs.declared.phrase.Phrase.TheVariants as phrases
+use Rattle.hdl_proxy.specs.Phrases.{phrase_part}
 use Rattle.hdl_proxy.specs.declared.note.Note.{Note}
 use Rattle.hdl_proxy.specs.declared.note.Note.TheVariants.{Nothing, NoUrl, UrlUnfollowed, Unread, Unfollowed}
-use Rattle.hdl_proxy.specs.declared.note.TheConstants.{NO_URL, URL_UNFOLLOWED, UNREAD, UNFOLLOWED}
+
+abbrev pub told_part : Language → Phrase → List ℕ
+told_part language told = phrase_part language (codes "<p class=\"note\">") told (codes "</p>\n")
 
 -- why values are shown, in words of this crate
-abbrev pub note_part : Note → List ℕ
-note_part Nothing = []
-note_part NoUrl = NO_URL.now
-note_part UrlUnfollowed = URL_UNFOLLOWED.now
-note_part Unread = UNREAD.now
-note_part Unfollowed = UNFOLLOWED.now
+abbrev pub note_part : Language → Note → List ℕ
+note_part language Nothing = []
+note_part language NoUrl = told_part language phrases.NoUrl
+note_part language UrlUnfollowed = told_part language phrases.UrlUnfollowed
+note_part language Unread = told_part language phrases.LocationsUnread
+note_part language Unfollowed = told_part language phrases.LocationUnfollowed

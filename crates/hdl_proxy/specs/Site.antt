@@ -1,14 +1,19 @@
 -- What all pages of a site have: its head, and its foot with whom to ask. Its name and its contact are text. And for how long browsers keep its redirects.
-use Rattle.std.specs.Prelude.{◌≡◌, ◌≢◌, ◌⊎◌, ℕ, ◌==◌, if◌then◌else◌, List, [], ◌++◌, codes, Option, Some, None, option_map, string_bytes}
+use Rattle.std.specs.Prelude.{◌≡◌, ◌≢◌, ◌⊎◌, ℕ, ◌==◌, ◌||◌, if◌then◌else◌, Bool, true, false, is_some, List, [], ◌++◌, codes, Option, Some, None, option_map, string_bytes}
+use Rattle.hdl_languages.specs.declared.language.Language.{Language}
+use Rattle.hdl_languages.specs.declared.phrase.Phrase.TheVariants as phrases
 use Rattle.hdl_proxy.specs.Escape.{escaped}
 use Rattle.hdl_proxy.specs.Link.{IsWayTo}
 use Rattle.hdl_proxy.specs.Pages.{element}
+use Rattle.hdl_proxy.specs.Phrases.{phrase_part}
+use Rattle.hdl_proxy.specs.Status.{status_number}
 use Rattle.hdl_proxy.specs.Step.{IsWithin}
 use Rattle.hdl_proxy.specs.Url.{IsFollowed, IsSiteAddress}
 use Rattle.hdl_proxy.specs.declared.answer.Answer.{Answer}
 use Rattle.hdl_proxy.specs.declared.answer.CacheControl.{CacheControl}
 use Rattle.hdl_proxy.specs.declared.answer.CacheControl.TheVariants.{Never, Seconds}
 use Rattle.hdl_proxy.specs.declared.answer.Media.TheVariants as media
+use Rattle.hdl_proxy.specs.declared.answer.Status.TheVariants.{Gone}
 use Rattle.hdl_proxy.specs.declared.site.Contact.{Contact}
 use Rattle.hdl_proxy.specs.declared.site.Site.{Site}
 use Rattle.hdl_proxy.specs.declared.site.TheConstants.{HEAD, STYLE, MAIN}
@@ -65,27 +70,27 @@ abbrev pub about_part : List ℕ → List ℕ → Option (List ℕ) → List ℕ
 about_part title name None = []
 about_part title name (Some address) = address_part title name address
 
--- the page up to its main part: its title and the site's name, its address, and the name once more as its head
-unfoldable pub front_part : List ℕ → List ℕ → Option (List ℕ) → List ℕ
-front_part title name address =
-    HEAD.now ++ (escaped title ++ (element (codes " - ") name (codes "</title>\n") ++ (about_part title name address ++ (STYLE.now ++ (escaped name ++ MAIN.now)))))
+-- the page up to its main part: its language, its title and the site's name, its address, and the name once more as its head
+unfoldable pub front_part : Language → List ℕ → List ℕ → Option (List ℕ) → List ℕ
+front_part language title name address =
+    phrase_part language (codes "<!DOCTYPE html>\n<html lang=\"") phrases.LanguageTag HEAD.now ++ (escaped title ++ (element (codes " - ") name (codes "</title>\n") ++ (about_part title name address ++ (STYLE.now ++ (escaped name ++ MAIN.now)))))
 
 -- a link to who is asked
-unfoldable pub contact_part : Contact → List ℕ
-contact_part contact =
-    codes "<footer>Questions? <a href=\"" ++ (escaped contact.to ++ element (codes "\"><bdi>") (string_bytes contact.text) (codes "</bdi></a></footer>\n"))
+unfoldable pub contact_part : Language → Contact → List ℕ
+contact_part language contact =
+    phrase_part language (codes "<footer>") phrases.Questions (codes " <a href=\"") ++ (escaped contact.to ++ element (codes "\"><bdi>") (string_bytes contact.text) (codes "</bdi></a></footer>\n"))
 
-abbrev pub foot : Option Contact → List ℕ
-foot None = []
-foot (Some contact) = contact_part contact
+abbrev pub foot : Language → Option Contact → List ℕ
+foot language None = []
+foot language (Some contact) = contact_part language contact
 
 -- the page of this main part, at this address
-abbrev pub page_of : Site → List ℕ → Option (List ℕ) → List ℕ → List ℕ
-page_of site title address main =
-    front_part title (string_bytes site.name) address ++ (main ++ (codes "</main>\n" ++ (foot site.contact ++ codes "</body>\n</html>\n")))
+abbrev pub page_of : Site → Language → List ℕ → Option (List ℕ) → List ℕ → List ℕ
+page_of site language title address main =
+    front_part language title (string_bytes site.name) address ++ (main ++ (codes "</main>\n" ++ (foot language site.contact ++ codes "</body>\n</html>\n")))
 
 -- it is dressed as a page: the same answer, with its whole page and its whole address
-pub record Dresses (site : Site) (before after : Answer) : Type 0 where
+pub record Dresses (site : Site) (language : Language) (before after : Answer) : Type 0 where
   pub status : after.status ≡ before.status
   pub location : after.location ≡ before.location
   pub media : after.media ≡ media.Page
@@ -93,13 +98,13 @@ pub record Dresses (site : Site) (before after : Answer) : Type 0 where
   pub tag : after.tag ≡ before.tag
   pub title : after.title ≡ before.title
   pub about : option_map string_bytes after.about ≡ whole_address (option_map string_bytes site.address) (option_map string_bytes before.about)
-  pub body : after.body.items ≡ page_of site before.title.items (option_map string_bytes after.about) before.body.items
+  pub body : after.body.items ≡ page_of site language before.title.items (option_map string_bytes after.about) before.body.items
 
 -- a page is dressed, and all else stays
-abbrev pub IsDressed : Site → Answer → Answer → Type 0
-IsDressed site before after =
+abbrev pub IsDressed : Site → Language → Answer → Answer → Type 0
+IsDressed site language before after =
     ((before.media ≢ media.Page) × (after ≡ before))
-    ⊎ ((before.media ≡ media.Page) × Dresses site before after)
+    ⊎ ((before.media ≡ media.Page) × Dresses site language before after)
 
 -- ---- redirects
 
@@ -107,8 +112,12 @@ IsDressed site before after =
 abbrev pub redirect_cache_control : ℕ → CacheControl
 redirect_cache_control seconds = if seconds == 0 then Never else Seconds seconds
 
--- a redirect is kept no longer than the site says, and all else stays
+-- a redirect, or that a handle is gone
+abbrev pub is_bound : Answer → Bool
+is_bound answer = is_some answer.location || status_number answer.status == status_number Gone
+
+-- such an answer is kept no longer than the site says, and all else stays
 abbrev pub IsBound : Site → Answer → Answer → Type 0
 IsBound site before after =
-    ((before.location ≡ None) × (after ≡ before))
-    ⊎ ((before.location ≢ None) × IsWithin (redirect_cache_control site.redirects) before after)
+    ((is_bound before ≡ false) × (after ≡ before))
+    ⊎ ((is_bound before ≡ true) × IsWithin (redirect_cache_control site.redirects) before after)

@@ -1,6 +1,8 @@
--- The statuses of HTTP (RFC 9110, section 15), and the status and the words of each response code.
+-- The statuses of HTTP (RFC 9110, section 15), and the status and the phrases of each response code.
 use Rattle.std.specs.Prelude.{ℕ, ◌==◌, ◌||◌, Bool, List, codes, eqb, if◌then◌else◌}
 use Rattle.std.specs.List.{ends_with}
+use Rattle.hdl_languages.specs.declared.phrase.Phrase.{Phrase}
+use Rattle.hdl_languages.specs.declared.phrase.Phrase.TheVariants as phrases
 use Rattle.hdl_proxy.specs.declared.answer.Status.{Status}
 use Rattle.hdl_proxy.specs.declared.codes.TheConstants.{SUCCESS, SERVER_BUSY, OPERATION_DENIED, HANDLE_NOT_FOUND, INVALID_HANDLE, VALUE_NOT_FOUND, SERVICE_REFERRAL, TOO_FAR}
 use Rattle.hdl_proxy.specs.declared.answer.Status.TheVariants.{Success, Created, NoContent, Found, NotModified, BadRequest, Unauthorized, Forbidden, NotFound, MethodNotAllowed, RequestTimeout, Conflict, Gone, ContentTooLarge, BadGateway, Unavailable}
@@ -37,29 +39,27 @@ abbrev pub reported_code : ℕ → ℕ
 reported_code code = if code == SERVICE_REFERRAL then HANDLE_NOT_FOUND else code
 
 -- why there are no values, by the code
-abbrev pub refused_words : ℕ → List ℕ
+abbrev pub refused_words : ℕ → Phrase
 refused_words code =
-    if code == HANDLE_NOT_FOUND then codes "This handle isn't there."
-    else if code == INVALID_HANDLE then codes "The server says that this is no handle."
-    else if code == VALUE_NOT_FOUND then codes "This handle exists, but it has no such public value."
-    else if code == SERVICE_REFERRAL then codes "No server here has handles with this beginning."
-    else if code == SERVER_BUSY then codes "The server is busy."
-    else codes "The server couldn't answer."
+    if code == HANDLE_NOT_FOUND then phrases.NotThere
+    else if code == INVALID_HANDLE then phrases.ServerSaysNoHandle
+    else if code == VALUE_NOT_FOUND then phrases.NoSuchValue
+    else if code == SERVICE_REFERRAL then phrases.NoSuchPrefix
+    else if code == SERVER_BUSY then phrases.Busy
+    else phrases.CouldNotAnswer
 
 -- a page's advice to who asked for this name, by the code
 abbrev pub ends_with_slash : List ℕ → Bool
 ends_with_slash asked = ends_with eqb asked (codes "/")
 
-abbrev pub look_again : List ℕ → List ℕ
-look_again asked =
-    if ends_with_slash asked then codes "Please look for a mistake in the name, such as the slash at its end. If there is none, ask who gave it to you."
-    else codes "Please look for a mistake in the name. If there is none, ask who gave it to you."
+abbrev pub look_again : List ℕ → Phrase
+look_again asked = if ends_with_slash asked then phrases.LookAtSlash else phrases.LookAgain
 
-abbrev pub advice : ℕ → List ℕ → List ℕ
+abbrev pub advice : ℕ → List ℕ → Phrase
 advice code asked =
     if (code == HANDLE_NOT_FOUND) || (code == SERVICE_REFERRAL) then look_again asked
-    else if code == INVALID_HANDLE then codes "A handle is a prefix, a slash and a local name, such as 10/a."
-    else if code == VALUE_NOT_FOUND then codes "Its values aren't public, or the part of its address after the question mark selects others."
-    else if code == OPERATION_DENIED then codes "Follow a link to a handle, or type its address."
-    else if code == TOO_FAR then codes "Please tell the person who gave it to you: one of these handles must be changed."
-    else codes "Please come back in a few minutes."
+    else if code == INVALID_HANDLE then phrases.HandleForm
+    else if code == VALUE_NOT_FOUND then phrases.SelectOthers
+    else if code == OPERATION_DENIED then phrases.FollowLink
+    else if code == TOO_FAR then phrases.TellGiver
+    else phrases.ComeBack

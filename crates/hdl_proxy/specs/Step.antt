@@ -1,9 +1,15 @@
 -- What is next for a question that was answered.
-use Rattle.std.specs.Prelude.{◌≡◌, ◌≢◌, ◌≤◌, ◌<◌, ◌⊎◌, ℕ, Bool, true, false, ◌==◌, nat_lt, not, ◌&&◌, if◌then◌else◌, List, [], ◌∷◌, ◌++◌, length, Option, Some, None, Result, codes, slice_get, string_bytes, unwrap_or}
+use Rattle.std.specs.Prelude.{◌≡◌, ◌≢◌, ◌≤◌, ◌<◌, ◌⊎◌, ℕ, Bool, true, false, ◌==◌, nat_lt, not, ◌&&◌, if◌then◌else◌, List, [], ◌∷◌, ◌++◌, length, Option, Some, None, Result, slice_get, string_bytes, unwrap_or}
 use Rattle.std.specs.Borrow.{Bor}
 use Rattle.hdl_proxy.specs.Alias.{IsHop, is_among, way_words}
 use Rattle.serde_json.specs.Written.{compact_text}
 use Rattle.hdl_proxy.specs.Answer.{ShowsFound, Tells, is_json, media_of, title_in}
+use Rattle.hdl_languages.specs.Words.{words}
+use Rattle.hdl_languages.specs.declared.language.Language.{Language}
+use Rattle.hdl_languages.specs.declared.language.Language.TheVariants.{English}
+use Rattle.hdl_languages.specs.declared.phrase.Phrase.{Phrase}
+use Rattle.hdl_languages.specs.declared.phrase.Phrase.TheVariants as phrases
+use Rattle.hdl_proxy.specs.Format.{language_of}
 use Rattle.hdl_proxy.specs.Found.{IsFoundOf}
 use Rattle.hdl_proxy.specs.Guess.{IsGuess, IsMissing}
 use Rattle.hdl_proxy.specs.Hops.{alias_part, nowhere_page}
@@ -39,31 +45,31 @@ pub record IsWithin (most : CacheControl) (before after : Reply) : Type 0 where
   pub body : after.body ≡ before.body
 
 -- the title of a page where the alias of another handle led there
-abbrev pub alias_title : List ℕ → List ℕ → List ℕ
-alias_title asked title = asked ++ (codes ", an alias: " ++ title)
+abbrev pub alias_title : Language → List ℕ → List ℕ → List ℕ
+alias_title language asked title = asked ++ (words language phrases.AnAlias ++ title)
 
 -- the same page, which says which handle was asked for, by a link to its own values
-pub record IsOfAlias (asked : List ℕ) (before after : Reply) : Type 0 where
+pub record IsOfAlias (language : Language) (asked : List ℕ) (before after : Reply) : Type 0 where
   pub cache_control : after.cache_control ≡ before.cache_control
   pub status : after.status ≡ before.status
   pub location : after.location ≡ before.location
   pub media : after.media ≡ before.media
   pub tag : after.tag ≡ before.tag
   pub about : after.about ≡ before.about
-  pub title : after.title.items ≡ alias_title asked before.title.items
-  pub body : after.body.items ≡ alias_part asked ++ before.body.items
+  pub title : after.title.items ≡ alias_title language asked before.title.items
+  pub body : after.body.items ≡ alias_part language asked ++ before.body.items
 
 -- a page says which handle was asked for, where aliases led on from one; all else is as it was
-abbrev pub IsNamed : Option (List ℕ) → Reply → Reply → Type 0
-IsNamed None before after = after ≡ before
-IsNamed (Some asked) before after = ((before.media ≡ media.Page) × IsOfAlias asked before after) ⊎ ((before.media ≢ media.Page) × (after ≡ before))
+abbrev pub IsNamed : Language → Option (List ℕ) → Reply → Reply → Type 0
+IsNamed language None before after = after ≡ before
+IsNamed language (Some asked) before after = ((before.media ≡ media.Page) × IsOfAlias language asked before after) ⊎ ((before.media ≢ media.Page) × (after ≡ before))
 
 -- it shows what was found of the question's handle, others may keep it no longer than what the aliases that led here were told with, and a page says
 -- which handle was asked for
 abbrev pub Ends : Question → Found → Reply → Type 0
 Ends question found answer =
     (shown kept : Reply) × (ShowsFound question.form question.name question.append.items (string_bytes question.locatt) found shown
-    × IsWithin question.cache_control shown kept × IsNamed (slice_get question.passed.items 0) kept answer)
+    × IsWithin question.cache_control shown kept × IsNamed (language_of question.form) (slice_get question.passed.items 0) kept answer)
 
 -- ---- an alias is followed
 
@@ -89,14 +95,14 @@ pub record IsNext (question : Question) (hop : Hop) (next : Question) : Type 0 w
   pub anew : next.anew ≡ question.anew
 
 -- that the aliases of these handles lead nowhere, the last of them to this one, told of the first one by all of them: a page has a link to each
-abbrev pub nowhere_body : AnswerFormat → List ℕ → List (List ℕ) → List ℕ → List ℕ
-nowhere_body Follow front asked target = nowhere_page (first_of asked) front asked target
-nowhere_body Page front asked target = nowhere_page (first_of asked) front asked target
-nowhere_body Json front asked target = compact_text (refusal_json (first_of asked) TOO_FAR (way_words front asked target))
-nowhere_body Pretty front asked target = compact_text (refusal_json (first_of asked) TOO_FAR (way_words front asked target))
+abbrev pub nowhere_body : AnswerFormat → Phrase → List (List ℕ) → List ℕ → List ℕ
+nowhere_body (Follow language) front asked target = nowhere_page language (first_of asked) front asked target
+nowhere_body (Page language) front asked target = nowhere_page language (first_of asked) front asked target
+nowhere_body Json front asked target = compact_text (refusal_json (first_of asked) TOO_FAR (way_words (words English front) asked target))
+nowhere_body Pretty front asked target = compact_text (refusal_json (first_of asked) TOO_FAR (way_words (words English front) asked target))
 
 -- it isn't there, and nobody may keep that
-pub record LeadsNowhere (form : AnswerFormat) (front : List ℕ) (asked : List (List ℕ)) (target : List ℕ) (answer : Reply) : Type 0 where
+pub record LeadsNowhere (form : AnswerFormat) (front : Phrase) (asked : List (List ℕ)) (target : List ℕ) (answer : Reply) : Type 0 where
   pub told : Tells status.NotFound (media_of form) answer
   pub kept : answer.cache_control ≡ Never
   pub title : answer.title.items ≡ title_in form TOO_FAR (first_of asked)
@@ -106,9 +112,9 @@ abbrev pub Hops : Question → Hop → Next → Type 0
 Hops question hop (Ask next) = (is_among (asked_for question) hop.target ≡ false) × (length question.passed.items < 10) × IsNext question hop next
 Hops question hop (Answer answer) =
     ((is_among (asked_for question) hop.target ≡ true)
-    × LeadsNowhere question.form (codes "Its aliases lead in a circle:") (asked_for question) hop.target answer)
+    × LeadsNowhere question.form phrases.InACircle (asked_for question) hop.target answer)
     ⊎ ((is_among (asked_for question) hop.target ≡ false) × (10 ≤ length question.passed.items)
-    × LeadsNowhere question.form (codes "Its aliases lead on beyond ten handles:") (asked_for question) hop.target answer)
+    × LeadsNowhere question.form phrases.BeyondTen (asked_for question) hop.target answer)
 
 -- ---- a handle that isn't there
 
@@ -135,7 +141,7 @@ tried_for question = question.tried.items ++ question.name ∷ []
 -- the next question asks for all values of the handle that may be meant, and follows no alias
 pub record IsTry (question : Question) (guess : List ℕ) (next : Question) : Type 0 where
   pub name : next.name ≡ guess
-  pub form : next.form ≡ Page
+  pub form : next.form ≡ Page (language_of question.form)
   pub indexes : next.indexes.items ≡ []
   pub types : next.types.items ≡ []
   pub aliases : next.aliases ≡ false
@@ -145,7 +151,7 @@ pub record IsTry (question : Question) (guess : List ℕ) (next : Question) : Ty
 
 -- the guess is tried, and where there is none the handle that was asked for isn't there
 abbrev pub IsTried : Question → Option (List ℕ) → Next → Type 0
-IsTried question None (Answer answer) = IsMissing (first_of (tried_for question)) None answer
+IsTried question None (Answer answer) = IsMissing (language_of question.form) (first_of (tried_for question)) None answer
 IsTried question None (Ask next) = ⊥
 IsTried question (Some guess) (Answer answer) = ⊥
 IsTried question (Some guess) (Ask next) = IsTry question guess next
@@ -161,7 +167,7 @@ meant_in question found = if is_there found then Some question.name else None
 -- a question that was tried in place of another one says whether its handle is meant, and every other one shows what was found
 abbrev pub EndsAt : Option (List ℕ) → Question → Found → Reply → Type 0
 EndsAt None question found answer = Ends question found answer
-EndsAt (Some asked) question found answer = IsMissing asked (meant_in question found) answer
+EndsAt (Some asked) question found answer = IsMissing (language_of question.form) asked (meant_in question found) answer
 
 abbrev pub IsEnd : Question → Found → Next → Type 0
 IsEnd question found (Answer answer) = EndsAt (slice_get question.tried.items 0) question found answer

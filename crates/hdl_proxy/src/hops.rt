@@ -9,17 +9,18 @@ use crate::answer::{Answer, CacheControl, Media, Status};
 use crate::codes::TOO_FAR;
 use crate::page::Page;
 use crate::pages::{page_answer, put_advice, put_name, refusal_title};
+use hdl_languages::{Language, Phrase};
 use hdl_name::Name;
 use std::alloc::{AllocError, Global};
 
 /// Adds which handle was asked for, whose alias led to the handle of this page.
 #[tactic(auto, unfolding(crate::specs::Hops::alias_part))]
-pub(crate) fn put_alias(page: &mut Page, asked: &Name) -> Result<(), AllocError>
-    ensures { OnOk result (page.new.octets.items ≡ page.old.octets.items ++ alias_part asked.now) }
+pub(crate) fn put_alias(page: &mut Page, language: Language, asked: &Name) -> Result<(), AllocError>
+    ensures { OnOk result (page.new.octets.items ≡ page.old.octets.items ++ alias_part language asked.now) }
 {
     page.markup("<p class=\"note\">")?;
     page.handle(asked)?;
-    page.markup(" is an alias, which leads to another handle:</p>\n")
+    page.phrase(language, " ", Phrase::IsAlias, "</p>\n")
 }
 
 #[tactic(auto, unfolding(crate::specs::Hops::hop_part))]
@@ -55,21 +56,22 @@ fn put_hops(page: &mut Page, names: &[Name], target: &Name) -> Result<(), AllocE
 #[tactic(auto, unfolding(crate::specs::Hops::nowhere_page))]
 pub(crate) fn nowhere_page(
     alloc: Global,
+    language: Language,
     handle: &[u8],
-    front: &str,
+    front: Phrase,
     names: &[Name],
     target: &Name,
 ) -> Result<Answer, AllocError>
     ensures told { IfOk result (Tells Status.NotFound Media.Page) }
     ensures kept { IfOk result (λ a. a.cache_control ≡ CacheControl.Never) }
-    ensures title { IfOk result (λ a. a.title.items ≡ refusal_title 6 handle.now) }
-    ensures body { IfOk result (λ a. a.body.items ≡ nowhere_page handle.now front.now names.now target.now) }
+    ensures title { IfOk result (λ a. a.title.items ≡ refusal_title language 6 handle.now) }
+    ensures body { IfOk result (λ a. a.body.items ≡ nowhere_page language handle.now front names.now target.now) }
 {
-    let title = refusal_title(alloc, handle, TOO_FAR)?;
-    let mut page = Page::new(alloc, b"This handle leads nowhere.")?;
+    let title = refusal_title(alloc, language, handle, TOO_FAR)?;
+    let mut page = Page::headed(alloc, language, Phrase::LeadsNowhere)?;
     put_name(&mut page, handle)?;
-    page.element("<p>", front.as_bytes(), "</p>\n")?;
+    page.element("<p>", language.words(front).as_bytes(), "</p>\n")?;
     put_hops(&mut page, names, target)?;
-    put_advice(&mut page, TOO_FAR, handle)?;
+    put_advice(&mut page, language, TOO_FAR, handle)?;
     Ok(page_answer(Status::NotFound, CacheControl::Never, title, page))
 }

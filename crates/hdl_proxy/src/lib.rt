@@ -14,7 +14,14 @@
 //!
 //! ```rust
 //! // crates/hdl_web/src/service.rt
-//! match begin(self.alloc, own, sent.method, sent.path, sent.query)? {
+//! match begin(
+//!     self.alloc,
+//!     own,
+//!     language,
+//!     sent.method,
+//!     sent.path,
+//!     sent.query,
+//! )? {
 //!     Next::Answer(answer) => Ok(Progress::Answered(Ok(answer))),
 //!     Next::Ask(question) => self.shared.take(question, plain_path(sent)),
 //! }

@@ -1,19 +1,11 @@
 //! What a page says above a handle's values.
 
-ghost use Rattle.std.specs.Prelude.{◌≡◌};
-ghost use Rattle.hdl_proxy.specs.Note.{note_part};
+ghost use Rattle.std.specs.Prelude.{◌≡◌, ◌++◌, OnOk};
+ghost use Rattle.hdl_proxy.specs.Note.{note_part, told_part};
 
-const NO_URL: &str =
-    "<p class=\"note\">This handle has no web address to go to. Here is what is known about it.</p>\n";
-
-const URL_UNFOLLOWED: &str =
-    "<p class=\"note\">The web address of this handle, or what this link adds to it, isn't one that is followed here. Here is what is known about the handle.</p>\n";
-
-const UNREAD: &str =
-    "<p class=\"note\">The list of places that this handle leads to (10320/loc) has a mistake, so it leads nowhere. Please tell the person who gave it to you. Here is what is known about it.</p>\n";
-
-const UNFOLLOWED: &str =
-    "<p class=\"note\">The place that this link asks for, or that was chosen, isn't one that is followed here. Please tell the person who gave the handle to you. Here is what is known about it.</p>\n";
+use crate::page::Page;
+use hdl_languages::{Language, Phrase};
+use std::alloc::AllocError;
 
 /// Why a handle's values are shown, where its address leads nowhere.
 #[derive(Clone, Copy, PartialEq, Eq)]
@@ -30,17 +22,21 @@ pub(crate) enum Note {
     Unfollowed,
 }
 
-impl Note {
-    /// The note's markup.
-    pub(crate) fn markup(self) -> &'static str
-        ensures { result.now ≡ note_part self }
-    {
-        match self {
-            Note::Nothing => "",
-            Note::NoUrl => NO_URL,
-            Note::UrlUnfollowed => URL_UNFOLLOWED,
-            Note::Unread => UNREAD,
-            Note::Unfollowed => UNFOLLOWED,
-        }
+fn put_told(page: &mut Page, language: Language, told: Phrase) -> Result<(), AllocError>
+    ensures { OnOk result (page.new.octets.items ≡ page.old.octets.items ++ told_part language told) }
+{
+    page.phrase(language, "<p class=\"note\">", told, "</p>\n")
+}
+
+/// Adds the note.
+pub(crate) fn put_note(page: &mut Page, language: Language, note: Note) -> Result<(), AllocError>
+    ensures { OnOk result (page.new.octets.items ≡ page.old.octets.items ++ note_part language note) }
+{
+    match note {
+        Note::Nothing => Ok(()),
+        Note::NoUrl => put_told(page, language, Phrase::NoUrl),
+        Note::UrlUnfollowed => put_told(page, language, Phrase::UrlUnfollowed),
+        Note::Unread => put_told(page, language, Phrase::LocationsUnread),
+        Note::Unfollowed => put_told(page, language, Phrase::LocationUnfollowed),
     }
 }

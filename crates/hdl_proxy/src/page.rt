@@ -2,10 +2,13 @@
 
 ghost use Rattle.std.specs.Prelude.{◌≡◌, ◌++◌, [], IfOk, OnOk, decimal};
 ghost use Rattle.hdl_proxy.specs.Escape.{escaped};
+ghost use Rattle.hdl_languages.specs.Words.{words};
 ghost use Rattle.hdl_proxy.specs.Pages.{element, handle_link, name_top, top};
+ghost use Rattle.hdl_proxy.specs.Phrases.{phrase_part};
 
 use crate::escape::put_escaped;
 use crate::link::Link;
+use hdl_languages::{Language, Phrase};
 use hdl_name::Name;
 use std::alloc::{AllocError, Global};
 
@@ -25,6 +28,17 @@ impl Page {
         let mut page = Page::empty(alloc);
         page.element("<h1>", heading, "</h1>\n")?;
         Ok(page)
+    }
+
+    /// The main part of a page, with this phrase as its heading.
+    pub(crate) fn headed(
+        alloc: Global,
+        language: Language,
+        heading: Phrase,
+    ) -> Result<Page, AllocError>
+        ensures { IfOk result (λ page. page.octets.items ≡ top (words language heading)) }
+    {
+        Page::new(alloc, language.words(heading).as_bytes())
     }
 
     /// The main part of a page about this handle, whose name is its heading.
@@ -52,6 +66,22 @@ impl Page {
         ensures { OnOk result (self.new.octets.items ≡ self.old.octets.items ++ markup.now) }
     {
         self.octets.extend_from_slice(markup.as_bytes())
+    }
+
+    /// Adds a phrase of this crate between this markup.
+    #[tactic(auto, unfolding(crate::specs::Phrases::phrase_part))]
+    pub(crate) fn phrase(
+        &mut self,
+        language: Language,
+        front: &'static str,
+        phrase: Phrase,
+        back: &'static str,
+    ) -> Result<(), AllocError>
+        ensures { OnOk result (self.new.octets.items ≡ self.old.octets.items ++ phrase_part language front.now phrase back.now) }
+    {
+        self.markup(front)?;
+        self.markup(language.words(phrase))?;
+        self.markup(back)
     }
 
     /// Adds a part of a page, which was made as one.

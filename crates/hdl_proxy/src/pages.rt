@@ -1,7 +1,9 @@
 //! The pages of the proxy.
 
-ghost use Rattle.std.specs.Prelude.{◌≡◌, ◌≤◌, ◌++◌, List, ℕ, IfOk, OnOk, Some, [], codes, filter, length, option_copied, option_map, string_bytes, take};
-ghost use Rattle.hdl_proxy.specs.Pages.{advice_part, group_head, known_part, IsGonePage, heading, is_head, is_put, json_part, moment_part, name_part, refusal_title, lead_word, meant_link, meant_part, IsTable, written_part, refusal_page, redirect_page, IsFew, IsGroup, IsGroupAt, IsGroupsFrom, IsMany, IsRow, IsWrittenPart, IsSection, IsSections, IsValuesPart, IsPageOf};
+ghost use Rattle.std.specs.Prelude.{◌≡◌, ◌≤◌, ◌++◌, List, ℕ, IfOk, OnOk, Some, [], filter, length, option_copied, option_map, string_bytes, take};
+ghost use Rattle.hdl_languages.specs.Words.{words};
+ghost use Rattle.hdl_languages.specs.declared.phrase.Phrase.TheVariants as phrases;
+ghost use Rattle.hdl_proxy.specs.Pages.{advice_part, another_part, columns, group_head, known_part, IsGonePage, heading, is_head, is_put, json_part, moment_part, name_part, refusal_title, lead_word, meant_link, meant_part, IsTable, written_part, refusal_page, redirect_page, IsFew, IsGroup, IsGroupAt, IsGroupsFrom, IsMany, IsRow, IsWrittenPart, IsSection, IsSections, IsValuesPart, IsPageOf};
 ghost use Rattle.std.specs.List.{list_any};
 ghost use Rattle.hdl_proxy.specs.Choice.{is_of};
 ghost use Rattle.hdl_proxy.specs.Answer.{IsGone, IsLocated, LeadsTo, Tells};
@@ -17,30 +19,15 @@ use crate::codes::{
     HANDLE_NOT_FOUND, INVALID_HANDLE, OPERATION_DENIED, SERVICE_REFERRAL, TOO_FAR, VALUE_NOT_FOUND,
 };
 use crate::link::Link;
-use crate::note::Note;
+use crate::note::{Note, put_note};
 use crate::page::Page;
 use crate::url::name_in_address;
 use crate::value_data::put_data;
 use crate::words::{day_of, written_words};
+use hdl_languages::{Language, Phrase};
 use hdl_name::Name;
 use hdl_value::Value;
 use std::alloc::{AllocError, Global};
-
-const NO_VALUES: &str = "<p>This handle exists, but nothing about it is public.</p>\n";
-
-const ANOTHER: &str = "<p><a href=\"/\">Find another handle</a></p>\n";
-
-/// The head of a table of values.
-const COLUMNS: &str = "<table aria-label=\"What is known about this handle\">
-<thead><tr><th scope=\"col\">Type, index</th><th scope=\"col\">Value</th></tr></thead>
-<tbody>
-";
-
-/// The head of a table of many values, which stand by their types.
-const COLUMNS_OF_TYPES: &str =
-    "<table class=\"types\" aria-label=\"What is known about this handle\">
-<thead><tr><th scope=\"col\">Type, index</th><th scope=\"col\">Value</th></tr></thead>
-";
 
 /// From so many values on they stand by their types.
 const MANY: usize = 20;
@@ -80,50 +67,53 @@ fn ends_with_slash(asked: &[u8]) -> bool
     asked.ends_with(b"/")
 }
 
-fn look_again(asked: &[u8]) -> &'static str
-    ensures { result.now ≡ look_again asked.now }
+fn look_again(asked: &[u8]) -> Phrase
+    ensures { result ≡ look_again asked.now }
 {
     if ends_with_slash(asked) {
-        "Please look for a mistake in the name, such as the slash at its end. If there is none, ask who gave it to you."
+        Phrase::LookAtSlash
     } else {
-        "Please look for a mistake in the name. If there is none, ask who gave it to you."
+        Phrase::LookAgain
     }
 }
 
 /// What a reader may do who asked for this, by the code of the refusal.
-fn advice(code: u32, asked: &[u8]) -> &'static str
-    ensures { result.now ≡ advice code asked.now }
+fn advice(code: u32, asked: &[u8]) -> Phrase
+    ensures { result ≡ advice code asked.now }
 {
     match code {
         HANDLE_NOT_FOUND | SERVICE_REFERRAL => look_again(asked),
-        INVALID_HANDLE => "A handle is a prefix, a slash and a local name, such as 10/a.",
-        VALUE_NOT_FOUND =>
-            "Its values aren't public, or the part of its address after the question mark selects others.",
-        OPERATION_DENIED => "Follow a link to a handle, or type its address.",
-        TOO_FAR =>
-            "Please tell the person who gave it to you: one of these handles must be changed.",
-        _ => "Please come back in a few minutes.",
+        INVALID_HANDLE => Phrase::HandleForm,
+        VALUE_NOT_FOUND => Phrase::SelectOthers,
+        OPERATION_DENIED => Phrase::FollowLink,
+        TOO_FAR => Phrase::TellGiver,
+        _ => Phrase::ComeBack,
     }
 }
 
 /// How the title of a refusal begins, by its code.
-fn lead_word(code: u32) -> &'static str
-    ensures { result.now ≡ lead_word code }
+fn lead_word(code: u32) -> Phrase
+    ensures { result ≡ lead_word code }
 {
     match code {
-        HANDLE_NOT_FOUND | SERVICE_REFERRAL => "Not found: ",
-        INVALID_HANDLE => "No handle: ",
-        VALUE_NOT_FOUND => "Not public: ",
-        OPERATION_DENIED => "Not done: ",
-        TOO_FAR => "Leads nowhere: ",
-        _ => "No answer: ",
+        HANDLE_NOT_FOUND | SERVICE_REFERRAL => Phrase::NotFoundTitle,
+        INVALID_HANDLE => Phrase::NoHandleTitle,
+        VALUE_NOT_FOUND => Phrase::NotPublicTitle,
+        OPERATION_DENIED => Phrase::NotDoneTitle,
+        TOO_FAR => Phrase::LeadsNowhereTitle,
+        _ => Phrase::NoAnswerTitle,
     }
 }
 
-pub(crate) fn refusal_title(alloc: Global, asked: &[u8], code: u32) -> Result<Vec<u8>, AllocError>
-    ensures { IfOk result (λ title. title.items ≡ refusal_title code asked.now) }
+pub(crate) fn refusal_title(
+    alloc: Global,
+    language: Language,
+    asked: &[u8],
+    code: u32,
+) -> Result<Vec<u8>, AllocError>
+    ensures { IfOk result (λ title. title.items ≡ refusal_title language code asked.now) }
 {
-    let mut title = Vec::from_slice(alloc, lead_word(code).as_bytes())?;
+    let mut title = Vec::from_slice(alloc, language.words(lead_word(code)).as_bytes())?;
     title.extend_from_slice(asked)?;
     Ok(title)
 }
@@ -135,31 +125,55 @@ pub(crate) fn put_name(page: &mut Page, name: &[u8]) -> Result<(), AllocError>
     page.element("<p class=\"name\" dir=\"auto\">", name, "</p>\n")
 }
 
+/// The way to another handle.
+#[tactic(auto, unfolding(crate::specs::Pages::another_part))]
+fn put_another(page: &mut Page, language: Language) -> Result<(), AllocError>
+    ensures { OnOk result (page.new.octets.items ≡ page.old.octets.items ++ another_part language) }
+{
+    page.phrase(
+        language,
+        "<p><a href=\"/\">",
+        Phrase::FindAnother,
+        "</a></p>\n",
+    )
+}
+
 /// What to do, and the way to another handle.
 #[tactic(auto, unfolding(crate::specs::Pages::advice_part))]
-pub(crate) fn put_advice(page: &mut Page, code: u32, asked: &[u8]) -> Result<(), AllocError>
-    ensures { OnOk result (page.new.octets.items ≡ page.old.octets.items ++ advice_part code asked.now) }
+pub(crate) fn put_advice(
+    page: &mut Page,
+    language: Language,
+    code: u32,
+    asked: &[u8],
+) -> Result<(), AllocError>
+    ensures { OnOk result (page.new.octets.items ≡ page.old.octets.items ++ advice_part language code asked.now) }
 {
-    page.element("<p>", advice(code, asked).as_bytes(), "</p>\n")?;
-    page.markup(ANOTHER)
+    let advised = language.words(advice(code, asked));
+    page.element("<p>", advised.as_bytes(), "</p>\n")?;
+    put_another(page, language)
 }
 
 /// Adds the handle that may be meant, as a link to where its address leads.
 #[tactic(auto, unfolding(crate::specs::Pages::meant_link))]
-fn put_meant_link(page: &mut Page, name: &Name) -> Result<(), AllocError>
-    ensures { OnOk result (page.new.octets.items ≡ page.old.octets.items ++ meant_link name.now) }
+fn put_meant_link(page: &mut Page, language: Language, name: &Name) -> Result<(), AllocError>
+    ensures { OnOk result (page.new.octets.items ≡ page.old.octets.items ++ meant_link language name.now) }
 {
     let to = Link::of_name(page.alloc, name)?;
-    page.markup("<p class=\"note\">Did you mean <a href=\"")?;
+    page.phrase(
+        language,
+        "<p class=\"note\">",
+        Phrase::DidYouMean,
+        " <a href=\"",
+    )?;
     page.text(to.octets())?;
     page.element("\"><bdi>", name.sent(), "</bdi></a>?</p>\n")
 }
 
-fn put_meant(page: &mut Page, meant: Option<&Name>) -> Result<(), AllocError>
-    ensures { OnOk result (page.new.octets.items ≡ page.old.octets.items ++ meant_part (option_copied meant.entry)) }
+fn put_meant(page: &mut Page, language: Language, meant: Option<&Name>) -> Result<(), AllocError>
+    ensures { OnOk result (page.new.octets.items ≡ page.old.octets.items ++ meant_part language (option_copied meant.entry)) }
 {
     match meant {
-        Some(name) => put_meant_link(page, name),
+        Some(name) => put_meant_link(page, language, name),
         None => Ok(()),
     }
 }
@@ -168,19 +182,20 @@ fn put_meant(page: &mut Page, meant: Option<&Name>) -> Result<(), AllocError>
 #[tactic(auto, unfolding(crate::specs::Guess::missing_page))]
 pub(crate) fn missing_page(
     alloc: Global,
+    language: Language,
     asked: &[u8],
     meant: Option<&Name>,
 ) -> Result<Answer, AllocError>
     ensures told { IfOk result (Tells Status.NotFound Media.Page) }
     ensures kept { IfOk result (λ a. a.cache_control ≡ CacheControl.Never) }
-    ensures title { IfOk result (λ a. a.title.items ≡ refusal_title HANDLE_NOT_FOUND asked.now) }
-    ensures body { IfOk result (λ a. a.body.items ≡ missing_page asked.now (option_copied meant.entry)) }
+    ensures title { IfOk result (λ a. a.title.items ≡ refusal_title language HANDLE_NOT_FOUND asked.now) }
+    ensures body { IfOk result (λ a. a.body.items ≡ missing_page language asked.now (option_copied meant.entry)) }
 {
-    let title = refusal_title(alloc, asked, HANDLE_NOT_FOUND)?;
-    let mut page = Page::new(alloc, b"This handle isn't there.")?;
+    let title = refusal_title(alloc, language, asked, HANDLE_NOT_FOUND)?;
+    let mut page = Page::headed(alloc, language, Phrase::NotThere)?;
     put_name(&mut page, asked)?;
-    put_meant(&mut page, meant)?;
-    put_advice(&mut page, HANDLE_NOT_FOUND, asked)?;
+    put_meant(&mut page, language, meant)?;
+    put_advice(&mut page, language, HANDLE_NOT_FOUND, asked)?;
     Ok(page_answer(Status::NotFound, CacheControl::Never, title, page))
 }
 
@@ -188,6 +203,7 @@ pub(crate) fn missing_page(
 #[tactic(auto, unfolding(crate::specs::Pages::refusal_page))]
 pub(crate) fn refusal(
     alloc: Global,
+    language: Language,
     status: Status,
     asked: &[u8],
     code: u32,
@@ -195,30 +211,46 @@ pub(crate) fn refusal(
 ) -> Result<Answer, AllocError>
     ensures told { IfOk result (Tells status Media.Page) }
     ensures kept { IfOk result (λ a. a.cache_control ≡ CacheControl.Never) }
-    ensures title { IfOk result (λ a. a.title.items ≡ refusal_title code asked.now) }
-    ensures body { IfOk result (λ a. a.body.items ≡ refusal_page asked.now code why.now) }
+    ensures title { IfOk result (λ a. a.title.items ≡ refusal_title language code asked.now) }
+    ensures body { IfOk result (λ a. a.body.items ≡ refusal_page language asked.now code why.now) }
 {
-    let title = refusal_title(alloc, asked, code)?;
+    let title = refusal_title(alloc, language, asked, code)?;
     let mut page = Page::new(alloc, why.as_bytes())?;
     put_name(&mut page, asked)?;
-    put_advice(&mut page, code, asked)?;
+    put_advice(&mut page, language, code, asked)?;
     Ok(page_answer(status, CacheControl::Never, title, page))
 }
 
+/// The form by which a handle is found.
+fn put_find(page: &mut Page, language: Language) -> Result<(), AllocError> {
+    page.phrase(
+        language,
+        "<form action=\"/\" method=\"get\">\n<p><label for=\"handle\">",
+        Phrase::AsYouFoundIt,
+        "</label></p>\n",
+    )?;
+    page.phrase(
+        language,
+        "<p class=\"find\"><input id=\"handle\" name=\"handle\" placeholder=\"10/a\" autocapitalize=\"off\" autocomplete=\"off\" spellcheck=\"false\" required> <button>",
+        Phrase::GoToIt,
+        "</button></p>\n</form>\n",
+    )
+}
+
 /// What this is, and a form.
-pub(crate) fn front(alloc: Global) -> Result<Answer, AllocError>
+pub(crate) fn front(alloc: Global, language: Language) -> Result<Answer, AllocError>
     ensures { IfOk result (Tells Status.Success Media.Page) }
 {
-    let title = Vec::from_slice(alloc, b"Find a handle")?;
-    let mut page = Page::new(alloc, b"Find a handle")?;
-    page.markup(
-        "<form action=\"/\" method=\"get\">
-<p><label for=\"handle\">A handle, as you found it:</label></p>
-<p class=\"find\"><input id=\"handle\" name=\"handle\" placeholder=\"10/a\" autocapitalize=\"off\" autocomplete=\"off\" spellcheck=\"false\" required> <button>Go to it</button></p>
-</form>
-<p>A handle such as <code>10/a</code> is a lasting name of a text, a picture or data, which may move. Its address here leads to where that is now.</p>
-<p><small>An address that ends in <code>?noredirect</code>, such as <code>/10/a?noredirect</code>, shows the values of its handle. <code>/api/handles/10/a</code> gives them as JSON.</small></p>
-",
+    let heading = language.words(Phrase::FindAHandle);
+    let title = Vec::from_slice(alloc, heading.as_bytes())?;
+    let mut page = Page::headed(alloc, language, Phrase::FindAHandle)?;
+    put_find(&mut page, language)?;
+    page.phrase(language, "<p>", Phrase::WhatAHandleIs, "</p>\n")?;
+    page.phrase(
+        language,
+        "<p><small>",
+        Phrase::HowToSeeValues,
+        "</small></p>\n",
     )?;
     Ok(page_answer(Status::Success, CacheControl::Seconds(0), title, page))
 }
@@ -263,10 +295,15 @@ pub(crate) fn redirect(
 
 /// The day of a moment, and the moment for programs.
 #[tactic(auto, unfolding(crate::specs::Pages::moment_part))]
-fn put_moment(page: &mut Page, moment: &[u8]) -> Result<(), AllocError>
-    ensures { OnOk result (page.new.octets.items ≡ page.old.octets.items ++ moment_part moment.now) }
+fn put_moment(page: &mut Page, language: Language, moment: &[u8]) -> Result<(), AllocError>
+    ensures { OnOk result (page.new.octets.items ≡ page.old.octets.items ++ moment_part language moment.now) }
 {
-    page.markup("<p class=\"written\">Written <time datetime=\"")?;
+    page.phrase(
+        language,
+        "<p class=\"written\">",
+        Phrase::Written,
+        " <time datetime=\"",
+    )?;
     page.text(moment)?;
     page.element("\">", day_of(moment), "</time></p>\n")
 }
@@ -274,10 +311,11 @@ fn put_moment(page: &mut Page, moment: &[u8]) -> Result<(), AllocError>
 /// When a value was written. A timestamp of 0 says nothing.
 fn put_written_at(
     page: &mut Page,
+    language: Language,
     timestamp: u64,
     written: Option<String>,
 ) -> Result<(), AllocError>
-    ensures { OnOk result (page.new.octets.items ≡ page.old.octets.items ++ written_part timestamp (option_map string_bytes written)) }
+    ensures { OnOk result (page.new.octets.items ≡ page.old.octets.items ++ written_part language timestamp (option_map string_bytes written)) }
 {
     let Some(moment) = written else {
         return Ok(());
@@ -285,14 +323,14 @@ fn put_written_at(
     if timestamp == 0 {
         return Ok(());
     }
-    put_moment(page, moment.as_bytes())
+    put_moment(page, language, moment.as_bytes())
 }
 
-fn put_written(page: &mut Page, value: &Value) -> Result<(), AllocError>
-    ensures { OnOk result ((part : List ℕ) × IsWrittenPart value.now part × (page.new.octets.items ≡ page.old.octets.items ++ part)) }
+fn put_written(page: &mut Page, language: Language, value: &Value) -> Result<(), AllocError>
+    ensures { OnOk result ((part : List ℕ) × IsWrittenPart language value.now part × (page.new.octets.items ≡ page.old.octets.items ++ part)) }
 {
     let written = written_words(page.alloc, value)?;
-    put_written_at(page, value.timestamp, written)
+    put_written_at(page, language, value.timestamp, written)
 }
 
 #[tactic(auto, unfolding(crate::specs::Pages::heading))]
@@ -306,12 +344,12 @@ fn put_heading(page: &mut Page, value: &Value) -> Result<(), AllocError>
     page.markup("</small></th>\n<td>")
 }
 
-fn put_value(page: &mut Page, value: &Value) -> Result<(), AllocError>
-    ensures { OnOk result ((section : List ℕ) × IsSection value.now section × (page.new.octets.items ≡ page.old.octets.items ++ section)) }
+fn put_value(page: &mut Page, language: Language, value: &Value) -> Result<(), AllocError>
+    ensures { OnOk result ((section : List ℕ) × IsSection language value.now section × (page.new.octets.items ≡ page.old.octets.items ++ section)) }
 {
     put_heading(page, value)?;
-    put_data(page, value)?;
-    put_written(page, value)?;
+    put_data(page, language, value)?;
+    put_written(page, language, value)?;
     page.markup("</td></tr>\n")
 }
 
@@ -326,40 +364,71 @@ fn is_put(are_urls: bool, value: &Value) -> bool
     }
 }
 
-fn put_row(page: &mut Page, put: bool, value: &Value) -> Result<(), AllocError>
-    ensures { OnOk result ((part : List ℕ) × IsRow put value.now part × (page.new.octets.items ≡ page.old.octets.items ++ part)) }
+fn put_row(page: &mut Page, language: Language, put: bool, value: &Value) -> Result<(), AllocError>
+    ensures { OnOk result ((part : List ℕ) × IsRow language put value.now part × (page.new.octets.items ≡ page.old.octets.items ++ part)) }
 {
     if put {
-        return put_value(page, value);
+        return put_value(page, language, value);
     }
     Ok(())
 }
 
 /// The rows of those values that are URLs, or of the others.
-fn put_sections(page: &mut Page, are_urls: bool, values: &[Value]) -> Result<(), AllocError>
-    ensures { OnOk result ((part : List ℕ) × IsSections (filter (is_put are_urls) values.now) part × (page.new.octets.items ≡ page.old.octets.items ++ part)) }
+fn put_sections(
+    page: &mut Page,
+    language: Language,
+    are_urls: bool,
+    values: &[Value],
+) -> Result<(), AllocError>
+    ensures { OnOk result ((part : List ℕ) × IsSections language (filter (is_put are_urls) values.now) part × (page.new.octets.items ≡ page.old.octets.items ++ part)) }
 {
     for value in values {
-        put_row(page, is_put(are_urls, value), value)?;
+        put_row(page, language, is_put(are_urls, value), value)?;
     }
     Ok(())
 }
 
-fn put_few(page: &mut Page, values: &[Value]) -> Result<(), AllocError>
-    ensures { OnOk result ((part : List ℕ) × IsFew values.now part × (page.new.octets.items ≡ page.old.octets.items ++ part)) }
+/// The head of a table, behind the front of its tag.
+#[tactic(auto, unfolding(crate::specs::Pages::columns))]
+fn put_columns(page: &mut Page, language: Language, front: &'static str) -> Result<(), AllocError>
+    ensures { OnOk result (page.new.octets.items ≡ page.old.octets.items ++ columns language front.now) }
 {
-    page.markup(COLUMNS)?;
-    put_sections(page, true, values)?;
-    put_sections(page, false, values)?;
+    page.phrase(language, front, Phrase::WhatIsKnown, "\">\n")?;
+    page.phrase(
+        language,
+        "<thead><tr><th scope=\"col\">",
+        Phrase::TypeAndIndex,
+        "</th>",
+    )?;
+    page.phrase(
+        language,
+        "<th scope=\"col\">",
+        Phrase::Value,
+        "</th></tr></thead>\n",
+    )
+}
+
+fn put_few(page: &mut Page, language: Language, values: &[Value]) -> Result<(), AllocError>
+    ensures { OnOk result ((part : List ℕ) × IsFew language values.now part × (page.new.octets.items ≡ page.old.octets.items ++ part)) }
+{
+    put_columns(page, language, "<table aria-label=\"")?;
+    page.markup("<tbody>\n")?;
+    put_sections(page, language, true, values)?;
+    put_sections(page, language, false, values)?;
     page.markup(END)
 }
 
 /// The rows of the values of this type.
-fn put_of_type(page: &mut Page, kind: &[u8], values: &[Value]) -> Result<(), AllocError>
-    ensures { OnOk result ((part : List ℕ) × IsSections (filter (is_of kind.now) values.now) part × (page.new.octets.items ≡ page.old.octets.items ++ part)) }
+fn put_of_type(
+    page: &mut Page,
+    language: Language,
+    kind: &[u8],
+    values: &[Value],
+) -> Result<(), AllocError>
+    ensures { OnOk result ((part : List ℕ) × IsSections language (filter (is_of kind.now) values.now) part × (page.new.octets.items ≡ page.old.octets.items ++ part)) }
 {
     for value in values {
-        put_row(page, is_of(kind, value), value)?;
+        put_row(page, language, is_of(kind, value), value)?;
     }
     Ok(())
 }
@@ -376,11 +445,16 @@ fn put_group_head(page: &mut Page, kind: &[u8]) -> Result<(), AllocError>
 }
 
 /// A type, and its values.
-fn put_group(page: &mut Page, kind: &[u8], values: &[Value]) -> Result<(), AllocError>
-    ensures { OnOk result ((part : List ℕ) × IsGroup values.now kind.now part × (page.new.octets.items ≡ page.old.octets.items ++ part)) }
+fn put_group(
+    page: &mut Page,
+    language: Language,
+    kind: &[u8],
+    values: &[Value],
+) -> Result<(), AllocError>
+    ensures { OnOk result ((part : List ℕ) × IsGroup language values.now kind.now part × (page.new.octets.items ≡ page.old.octets.items ++ part)) }
 {
     put_group_head(page, kind)?;
-    put_of_type(page, kind, values)?;
+    put_of_type(page, language, kind, values)?;
     page.markup("</tbody>\n")
 }
 
@@ -400,15 +474,16 @@ fn is_head(are_urls: bool, before: &[Value], value: &Value) -> bool
 /// The group of a value's type, where the value is its head.
 fn put_group_at(
     page: &mut Page,
+    language: Language,
     are_urls: bool,
     values: &[Value],
     before: &[Value],
     value: &Value,
 ) -> Result<(), AllocError>
-    ensures { OnOk result ((part : List ℕ) × IsGroupAt are_urls values.now before.now value.now part × (page.new.octets.items ≡ page.old.octets.items ++ part)) }
+    ensures { OnOk result ((part : List ℕ) × IsGroupAt language are_urls values.now before.now value.now part × (page.new.octets.items ≡ page.old.octets.items ++ part)) }
 {
     if is_head(are_urls, before, value) {
-        return put_group(page, value.kind.as_slice(), values);
+        return put_group(page, language, value.kind.as_slice(), values);
     }
     Ok(())
 }
@@ -421,59 +496,65 @@ fn values_before(values: &[Value], place: usize) -> &[Value]
 }
 
 /// The groups of those values that are URLs, or of the others.
-fn put_groups(page: &mut Page, are_urls: bool, values: &[Value]) -> Result<(), AllocError>
-    ensures { OnOk result ((part : List ℕ) × IsGroupsFrom are_urls values.now [] values.now part × (page.new.octets.items ≡ page.old.octets.items ++ part)) }
+fn put_groups(
+    page: &mut Page,
+    language: Language,
+    are_urls: bool,
+    values: &[Value],
+) -> Result<(), AllocError>
+    ensures { OnOk result ((part : List ℕ) × IsGroupsFrom language are_urls values.now [] values.now part × (page.new.octets.items ≡ page.old.octets.items ++ part)) }
 {
     let mut place = 0;
     for value in values {
         let before = values_before(values, place);
-        put_group_at(page, are_urls, values, before, value)?;
+        put_group_at(page, language, are_urls, values, before, value)?;
         place += 1;
     }
     Ok(())
 }
 
-fn put_many(page: &mut Page, values: &[Value]) -> Result<(), AllocError>
-    ensures { OnOk result ((part : List ℕ) × IsMany values.now part × (page.new.octets.items ≡ page.old.octets.items ++ part)) }
+fn put_many(page: &mut Page, language: Language, values: &[Value]) -> Result<(), AllocError>
+    ensures { OnOk result ((part : List ℕ) × IsMany language values.now part × (page.new.octets.items ≡ page.old.octets.items ++ part)) }
 {
-    page.markup(COLUMNS_OF_TYPES)?;
-    put_groups(page, true, values)?;
-    put_groups(page, false, values)?;
+    put_columns(page, language, "<table class=\"types\" aria-label=\"")?;
+    put_groups(page, language, true, values)?;
+    put_groups(page, language, false, values)?;
     page.markup("</table>\n")
 }
 
-fn put_table(page: &mut Page, values: &[Value]) -> Result<(), AllocError>
-    ensures { OnOk result ((part : List ℕ) × IsTable values.now part × (page.new.octets.items ≡ page.old.octets.items ++ part)) }
+fn put_table(page: &mut Page, language: Language, values: &[Value]) -> Result<(), AllocError>
+    ensures { OnOk result ((part : List ℕ) × IsTable language values.now part × (page.new.octets.items ≡ page.old.octets.items ++ part)) }
 {
     if values.len() < MANY {
-        put_few(page, values)
+        put_few(page, language, values)
     } else {
-        put_many(page, values)
+        put_many(page, language, values)
     }
 }
 
-fn put_values(page: &mut Page, values: &[Value]) -> Result<(), AllocError>
-    ensures { OnOk result ((part : List ℕ) × IsValuesPart values.now part × (page.new.octets.items ≡ page.old.octets.items ++ part)) }
+fn put_values(page: &mut Page, language: Language, values: &[Value]) -> Result<(), AllocError>
+    ensures { OnOk result ((part : List ℕ) × IsValuesPart language values.now part × (page.new.octets.items ≡ page.old.octets.items ++ part)) }
 {
     if values.is_empty() {
-        return page.markup(NO_VALUES);
+        return page.phrase(language, "<p>", Phrase::NothingPublic, "</p>\n");
     }
-    put_table(page, values)
+    put_table(page, language, values)
 }
 
 #[tactic(auto, unfolding(crate::specs::Pages::json_part))]
-fn put_json_link(page: &mut Page, name: &Name) -> Result<(), AllocError>
-    ensures { OnOk result (page.new.octets.items ≡ page.old.octets.items ++ json_part name.now) }
+fn put_json_link(page: &mut Page, language: Language, name: &Name) -> Result<(), AllocError>
+    ensures { OnOk result (page.new.octets.items ≡ page.old.octets.items ++ json_part language name.now) }
 {
     let to = Link::to_json(page.alloc, name)?;
     page.markup("<p><small><a href=\"")?;
     page.text(to.octets())?;
-    page.markup("\">For programs: these values as JSON</a></small></p>\n")
+    page.phrase(language, "\">", Phrase::AsJson, "</a></small></p>\n")
 }
 
 /// The values of a handle, and why they are shown where its address leads nowhere.
 pub(crate) fn values_page(
     alloc: Global,
+    language: Language,
     name: &Name,
     note: Note,
     values: &[Value],
@@ -482,14 +563,14 @@ pub(crate) fn values_page(
     ensures kept { IfOk result (λ a. IsCacheControlOf values.now a.cache_control) }
     ensures about { IfOk result (λ a. option_map string_bytes a.about ≡ Some (name_in_address name.now)) }
     ensures title { IfOk result (λ a. a.title.items ≡ name.now) }
-    ensures body { IfOk result (λ a. IsPageOf name.now note values.now a.body.items) }
+    ensures body { IfOk result (λ a. IsPageOf language name.now note values.now a.body.items) }
 {
     let title = Vec::from_slice(alloc, name.sent())?;
     let mut page = Page::about(alloc, name.sent())?;
-    page.markup(note.markup())?;
-    put_values(&mut page, values)?;
-    page.markup(ANOTHER)?;
-    put_json_link(&mut page, name)?;
+    put_note(&mut page, language, note)?;
+    put_values(&mut page, language, values)?;
+    put_another(&mut page, language)?;
+    put_json_link(&mut page, language, name)?;
     let about = name_in_address(alloc, name.sent())?;
     let answer = page_answer(Status::Success, cache_control_of(values), title, page);
     Ok(Answer {
@@ -499,32 +580,37 @@ pub(crate) fn values_page(
 }
 
 #[tactic(auto, unfolding(crate::specs::Pages::known_part))]
-fn put_known_link(page: &mut Page, name: &Name) -> Result<(), AllocError>
-    ensures { OnOk result (page.new.octets.items ≡ page.old.octets.items ++ known_part name.now) }
+fn put_known_link(page: &mut Page, language: Language, name: &Name) -> Result<(), AllocError>
+    ensures { OnOk result (page.new.octets.items ≡ page.old.octets.items ++ known_part language name.now) }
 {
     let to = Link::to_values(page.alloc, name)?;
     page.markup("<p><small><a href=\"")?;
     page.text(to.octets())?;
-    page.markup("\">What is known about it</a></small></p>\n")
+    page.phrase(language, "\">", Phrase::KnownAboutIt, "</a></small></p>\n")
 }
 
 /// The page of a handle that is gone, by the value that says so.
-fn gone_body(alloc: Global, name: &Name, gone: &Value) -> Result<Page, AllocError>
-    ensures { IfOk result (λ page. IsGonePage name.now gone.now page.octets.items) }
+fn gone_body(
+    alloc: Global,
+    language: Language,
+    name: &Name,
+    gone: &Value,
+) -> Result<Page, AllocError>
+    ensures { IfOk result (λ page. IsGonePage language name.now gone.now page.octets.items) }
 {
-    let mut page = Page::new(alloc, b"What this handle named is gone.")?;
+    let mut page = Page::headed(alloc, language, Phrase::GoneHeading)?;
     put_name(&mut page, name.sent())?;
-    put_data(&mut page, gone)?;
-    put_written(&mut page, gone)?;
-    page.markup(ANOTHER)?;
-    put_known_link(&mut page, name)?;
+    put_data(&mut page, language, gone)?;
+    put_written(&mut page, language, gone)?;
+    put_another(&mut page, language)?;
+    put_known_link(&mut page, language, name)?;
     Ok(page)
 }
 
-fn gone_title(alloc: Global, name: &[u8]) -> Result<Vec<u8>, AllocError>
-    ensures { IfOk result (λ title. title.items ≡ codes "Gone: " ++ name.now) }
+fn gone_title(alloc: Global, language: Language, name: &[u8]) -> Result<Vec<u8>, AllocError>
+    ensures { IfOk result (λ title. title.items ≡ words language phrases.GoneTitle ++ name.now) }
 {
-    let mut title = Vec::from_slice(alloc, b"Gone: ")?;
+    let mut title = Vec::from_slice(alloc, language.words(Phrase::GoneTitle).as_bytes())?;
     title.extend_from_slice(name)?;
     Ok(title)
 }
@@ -532,14 +618,15 @@ fn gone_title(alloc: Global, name: &[u8]) -> Result<Vec<u8>, AllocError>
 /// That a handle is gone, by one of its values: why, and when that was written.
 pub(crate) fn gone_page(
     alloc: Global,
+    language: Language,
     name: &Name,
     gone: &Value,
     values: &[Value],
 ) -> Result<Answer, AllocError>
-    ensures { IfOk result (IsGone name.now gone.now values.now) }
+    ensures { IfOk result (IsGone language name.now gone.now values.now) }
 {
-    let title = gone_title(alloc, name.sent())?;
-    let page = gone_body(alloc, name, gone)?;
+    let title = gone_title(alloc, language, name.sent())?;
+    let page = gone_body(alloc, language, name, gone)?;
     let about = name_in_address(alloc, name.sent())?;
     let answer = page_answer(Status::Gone, cache_control_of(values), title, page);
     Ok(Answer {

@@ -25,6 +25,7 @@ use crate::question::{AnswerFormat, Question};
 use crate::redirect_choice::{RedirectChoice, RedirectRequest, redirect_from};
 use crate::resolver::NoAnswer;
 use crate::{files, json, pages};
+use hdl_languages::{Language, Phrase};
 use hdl_msg::ResponseCode;
 use hdl_name::{Name, NameFault};
 use hdl_value::Value;
@@ -49,28 +50,38 @@ pub enum Next {
 }
 
 /// The front page, or the way from its form to a handle's own address.
-fn begin_front(alloc: Global, own: Option<&str>, pairs: &[Pair]) -> Result<Next, AllocError>
-    ensures front { IfOk result (IsFront (option_copied own.entry) (texts_of pairs.now)) }
+fn begin_front(
+    alloc: Global,
+    own: Option<&str>,
+    language: Language,
+    pairs: &[Pair],
+) -> Result<Next, AllocError>
+    ensures front { IfOk result (IsFront language (option_copied own.entry) (texts_of pairs.now)) }
     ensures located { IfOk result IsLocatedIfAnswered }
 {
     match last_named(alloc, pairs, "handle")? {
-        Some(sent) => Ok(Next::Answer(lead_from(alloc, own, sent)?)),
-        None => Ok(Next::Answer(pages::front(alloc)?)),
+        Some(sent) => Ok(Next::Answer(lead_from(alloc, own, language, sent)?)),
+        None => Ok(Next::Answer(pages::front(alloc, language)?)),
     }
 }
 
 /// The way from what was pasted.
-fn lead_from(alloc: Global, own: Option<&str>, sent: &str) -> Result<Answer, AllocError>
-    ensures leads { IfOk result (LeadsFromPasted (option_copied own.entry) sent.now) }
+fn lead_from(
+    alloc: Global,
+    own: Option<&str>,
+    language: Language,
+    sent: &str,
+) -> Result<Answer, AllocError>
+    ensures leads { IfOk result (LeadsFromPasted language (option_copied own.entry) sent.now) }
     ensures located { IfOk result IsLocated }
 {
     let name = pasted_name(alloc, between_spaces(sent.as_bytes()), own)?;
-    lead(alloc, between_spaces(&name))
+    lead(alloc, language, between_spaces(&name))
 }
 
 /// The way to a handle's own address.
-fn lead(alloc: Global, sent: &[u8]) -> Result<Answer, AllocError>
-    ensures leads { IfOk result (LeadsToName sent.now) }
+fn lead(alloc: Global, language: Language, sent: &[u8]) -> Result<Answer, AllocError>
+    ensures leads { IfOk result (LeadsToName language sent.now) }
     ensures located { IfOk result IsLocated }
 {
     match read_name(alloc, sent)? {
@@ -79,22 +90,22 @@ fn lead(alloc: Global, sent: &[u8]) -> Result<Answer, AllocError>
             pages::redirect(alloc, name.sent(), to, CacheControl::Never)
         }
         Err(fault) => {
-            let why = fault_sentence(fault);
-            bad_request(alloc, sent, AnswerFormat::Page, why)
+            let why = language.words(fault_sentence(fault));
+            bad_request(alloc, sent, AnswerFormat::Page(language), why)
         }
     }
 }
 
 /// The sentence that says why a name is no handle.
-fn fault_sentence(fault: NameFault) -> &'static str
-    ensures { result.now ≡ fault_sentence fault }
+fn fault_sentence(fault: NameFault) -> Phrase
+    ensures { result ≡ fault_sentence fault }
 {
     match fault {
-        NameFault::TooLong => "This is no handle: the name is too long.",
-        NameFault::NotUtf8 => "This is no handle: the name is not UTF-8.",
-        NameFault::NoSlash => "This is no handle: the name has no slash.",
-        NameFault::BadSegment => "This is no handle: the name has a bad segment.",
-        NameFault::Memory => "This is no handle: no memory for the name.",
+        NameFault::TooLong => Phrase::NameTooLong,
+        NameFault::NotUtf8 => Phrase::NameNotUtf8,
+        NameFault::NoSlash => Phrase::NameWithoutSlash,
+        NameFault::BadSegment => Phrase::NameOfBadSegment,
+        NameFault::Memory => Phrase::NameWithoutMemory,
     }
 }
 
@@ -154,7 +165,7 @@ fn is_called_back(form: AnswerFormat, pairs: &[Pair]) -> bool
 fn follows_aliases(form: AnswerFormat, pairs: &[Pair]) -> bool
     ensures { result ≡ follows_aliases form (texts_of pairs.now) }
 {
-    matches!(form, AnswerFormat::Follow) && !has_pair(pairs, "ignore_aliases")
+    matches!(form, AnswerFormat::Follow(_)) && !has_pair(pairs, "ignore_aliases")
 }
 
 /// How long others may keep what is answered at most: where a server is to be asked in any case, not without asking again.
@@ -184,7 +195,7 @@ fn begin_handle(
         return refuse(alloc, form, octets, sent, why);
     }
     let Some(indexes) = indexes_of(alloc, pairs)? else {
-        let why = "An index is a number below 4294967296.";
+        let why = form.language().words(Phrase::BadIndex);
         return refuse(alloc, form, octets, sent, why);
     };
     let types = types_of(alloc, pairs)?;
@@ -205,20 +216,20 @@ fn begin_handle(
             anew: has_pair(pairs, "auth"),
         })),
         Err(fault) => {
-            let why = fault_sentence(fault);
+            let why = form.language().words(fault_sentence(fault));
             refuse(alloc, form, octets, sent, why)
         }
     }
 }
 
 /// The form of an address for browsers: a page of its values, or the way.
-fn page_form(pairs: &[Pair]) -> AnswerFormat
-    ensures { result ≡ page_form (texts_of pairs.now) }
+fn page_form(language: Language, pairs: &[Pair]) -> AnswerFormat
+    ensures { result ≡ page_form language (texts_of pairs.now) }
 {
     if has_pair(pairs, "noredirect") {
-        AnswerFormat::Page
+        AnswerFormat::Page(language)
     } else {
-        AnswerFormat::Follow
+        AnswerFormat::Follow(language)
     }
 }
 
@@ -269,8 +280,13 @@ fn no_handle(alloc: Global, path: &str) -> Result<Answer, AllocError>
 }
 
 /// The question of an address that is neither the front page nor a file.
-fn begin_address(alloc: Global, path: &str, query: &str) -> Result<Next, AllocError>
-    ensures asks { IsOfHandle path.now → IfOk result (AsksAddress path.now (pairs_of query.now)) }
+fn begin_address(
+    alloc: Global,
+    language: Language,
+    path: &str,
+    query: &str,
+) -> Result<Next, AllocError>
+    ensures asks { IsOfHandle path.now → IfOk result (AsksAddress language path.now (pairs_of query.now)) }
     ensures none { ¬ (IsOfHandle path.now) → IfOk result (IsAnswered (IsNoHandle path.now)) }
     ensures located { IfOk result IsLocatedIfAnswered }
 {
@@ -285,7 +301,7 @@ fn begin_address(alloc: Global, path: &str, query: &str) -> Result<Next, AllocEr
     let sent = without_slash(path);
     let octets = decode(alloc, name_within(sent.as_bytes()))?;
     let name = between_spaces(&octets);
-    begin_handle(alloc, sent, name, page_form(&pairs), &pairs)
+    begin_handle(alloc, sent, name, page_form(language, &pairs), &pairs)
 }
 
 /// The answer to a handle that is asked for by another method.
@@ -293,17 +309,22 @@ fn refuse_method(alloc: Global, form: AnswerFormat, path: &str) -> Result<Answer
     ensures refuses { IfOk result (RefusesMethodIn form path.now) }
     ensures located { IfOk result IsLocated }
 {
-    let why = "Use GET or HEAD to read a handle.";
+    let why = form.language().words(Phrase::OtherMethod);
     refuse_path(alloc, form, path, Status::MethodNotAllowed, why)
 }
 
 /// What is answered to a request that doesn't read.
-fn begin_other(alloc: Global, method: &str, path: &str) -> Result<Answer, AllocError>
-    ensures refuses { IfOk result (RefusesMethod method.now path.now) }
+fn begin_other(
+    alloc: Global,
+    language: Language,
+    method: &str,
+    path: &str,
+) -> Result<Answer, AllocError>
+    ensures refuses { IfOk result (RefusesMethod language method.now path.now) }
     ensures located { IfOk result IsLocated }
 {
     if !path.starts_with(API_PATH) {
-        return refuse_method(alloc, AnswerFormat::Page, path);
+        return refuse_method(alloc, AnswerFormat::Page(language), path);
     }
     if method == "OPTIONS" {
         return Ok(options(alloc));
@@ -324,75 +345,79 @@ pub fn options(alloc: Global) -> Answer
     )
 }
 
-/// What is to be done for a request with this method, path and query, each as it was sent; the query without its `?`. `own` is the address of the site, if it has one.
+/// What is to be done for a request with this method, path and query, each as it was sent; the query without its `?`. `own` is the address of the site, if it has one. Pages
+/// are in this language.
 pub fn begin(
     alloc: Global,
     own: Option<&str>,
+    language: Language,
     method: &str,
     path: &str,
     query: &str,
 ) -> Result<Next, AllocError>
-    ensures refuses { ¬ (IsReading method.now) → IfOk result (IsAnswered (RefusesMethod method.now path.now)) }
-    ensures front { IsReading method.now → path.now ≡ codes "/" → IfOk result (IsFront (option_copied own.entry) (pairs_of query.now)) }
+    ensures refuses { ¬ (IsReading method.now) → IfOk result (IsAnswered (RefusesMethod language method.now path.now)) }
+    ensures front { IsReading method.now → path.now ≡ codes "/" → IfOk result (IsFront language (option_copied own.entry) (pairs_of query.now)) }
     ensures files { IsReading method.now → IsFile path.now → IfOk result (IsAnswered (IsOfFile path.now)) }
-    ensures asks { IsReading method.now → IsOwn path.now → IsOfHandle path.now → IfOk result (AsksAddress path.now (pairs_of query.now)) }
+    ensures asks { IsReading method.now → IsOwn path.now → IsOfHandle path.now → IfOk result (AsksAddress language path.now (pairs_of query.now)) }
     ensures none { IsReading method.now → IsOwn path.now → ¬ (IsOfHandle path.now) → IfOk result (IsAnswered (IsNoHandle path.now)) }
     ensures located { IfOk result IsLocatedIfAnswered }
 {
     if method != "GET" && method != "HEAD" {
-        return Ok(Next::Answer(begin_other(alloc, method, path)?));
+        return Ok(Next::Answer(begin_other(alloc, language, method, path)?));
     }
     match path {
         "/" => {
             let pairs = read_pairs(alloc, query)?;
-            begin_front(alloc, own, &pairs)
+            begin_front(alloc, own, language, &pairs)
         }
         "/robots.txt" => Ok(Next::Answer(files::robots(alloc)?)),
         "/favicon.ico" => Ok(Next::Answer(files::icon(alloc)?)),
-        _ => begin_address(alloc, path, query),
+        _ => begin_address(alloc, language, path, query),
     }
 }
 
-fn refused_words(code: u32) -> &'static str
-    ensures { result.now ≡ refused_words code }
+fn refused_words(code: u32) -> Phrase
+    ensures { result ≡ refused_words code }
 {
     match code {
-        HANDLE_NOT_FOUND => "This handle isn't there.",
-        INVALID_HANDLE => "The server says that this is no handle.",
-        VALUE_NOT_FOUND => "This handle exists, but it has no such public value.",
-        SERVICE_REFERRAL => "No server here has handles with this beginning.",
-        SERVER_BUSY => "The server is busy.",
-        _ => "The server couldn't answer.",
+        HANDLE_NOT_FOUND => Phrase::NotThere,
+        INVALID_HANDLE => Phrase::ServerSaysNoHandle,
+        VALUE_NOT_FOUND => Phrase::NoSuchValue,
+        SERVICE_REFERRAL => Phrase::NoSuchPrefix,
+        SERVER_BUSY => Phrase::Busy,
+        _ => Phrase::CouldNotAnswer,
     }
 }
 
 /// The way, or where there is none the values and what is wrong.
 fn go(
     alloc: Global,
+    language: Language,
     name: &Name,
     way: RedirectChoice,
     values: &[Value],
 ) -> Result<Answer, AllocError>
-    ensures { IfOk result (Goes name.now values.now way.to way.wrong) }
+    ensures { IfOk result (Goes language name.now values.now way.to way.wrong) }
 {
     let RedirectChoice { to, wrong } = way;
     match to {
         Some(link) => pages::redirect(alloc, name.sent(), link, cache_control_of(values)),
-        None => pages::values_page(alloc, name, wrong, values),
+        None => pages::values_page(alloc, language, name, wrong, values),
     }
 }
 
 /// Where these values lead, or where that is nowhere the values.
 fn lead_on(
     alloc: Global,
+    language: Language,
     name: &Name,
     wish: &RedirectRequest<'_>,
     values: &[Value],
 ) -> Result<Answer, AllocError>
-    ensures { IfOk result (Follows name.now wish.now.append.now wish.now.locatt.now values.now) }
+    ensures { IfOk result (Follows language name.now wish.now.append.now wish.now.locatt.now values.now) }
 {
     let way = redirect_from(alloc, values, wish)?;
-    go(alloc, name, way, values)
+    go(alloc, language, name, way, values)
 }
 
 fn answer_values(
@@ -405,11 +430,17 @@ fn answer_values(
     ensures { IfOk result (ShowsValues form name.now wish.now.append.now wish.now.locatt.now values.now) }
 {
     match form {
-        AnswerFormat::Follow => match first_gone(values) {
-            Some(gone) => pages::gone_page(alloc, name, gone, values),
-            None => lead_on(alloc, name, wish, values),
+        AnswerFormat::Follow(language) => match first_gone(values) {
+            Some(gone) => pages::gone_page(alloc, language, name, gone, values),
+            None => lead_on(alloc, language, name, wish, values),
         },
-        AnswerFormat::Page => pages::values_page(alloc, name, Note::Nothing, values),
+        AnswerFormat::Page(language) => pages::values_page(
+            alloc,
+            language,
+            name,
+            Note::Nothing,
+            values,
+        ),
         AnswerFormat::Json => json::values_answer(
             alloc,
             name.sent(),
@@ -440,8 +471,8 @@ fn refusal_of(
         AnswerFormat::Json | AnswerFormat::Pretty => json::refusal(
             alloc, status, handle, code, why,
         ),
-        AnswerFormat::Follow | AnswerFormat::Page => pages::refusal(
-            alloc, status, handle, code, why,
+        AnswerFormat::Follow(language) | AnswerFormat::Page(language) => pages::refusal(
+            alloc, language, status, handle, code, why,
         ),
     }
 }
@@ -469,10 +500,11 @@ pub(crate) fn answer_found(
         Found::Refused(code) => {
             let status = Status::of_code(*code);
             let told = reported_code(*code);
-            refusal_of(alloc, form, handle, status, told, refused_words(*code))
+            let why = form.language().words(refused_words(*code));
+            refusal_of(alloc, form, handle, status, told, why)
         }
         Found::Nothing => {
-            let why = "No server answered.";
+            let why = form.language().words(Phrase::NoServerAnswered);
             let code = ResponseCode::Error.number();
             refusal_of(alloc, form, handle, Status::BadGateway, code, why)
         }

@@ -7,9 +7,11 @@ ghost use Rattle.hdl_msg.specs.Message.{resolution};
 ghost use Rattle.hdl_msg.specs.RequestBody.{request_length, requested_operation, operation_read};
 ghost use Rattle.hdl_value.specs.declared.wire.Wire.TheVariants.{Profile};
 ghost use Rattle.hdl_msg.specs.declared.codes.OpFlag.TheVariants.{PublicOnly};
+ghost use Rattle.hdl_proxy.specs.Format.{language_of};
 ghost use Rattle.hdl_proxy.specs.Question.{AsksInPublic, IsPublicRequest, IsTooLong};
 
 use crate::answer::CacheControl;
+use hdl_languages::Language;
 use hdl_limits::{Items, MESSAGE_MAX, Octets};
 use hdl_msg::{Header, OpCode, OpFlag, RequestBody, request_len, write_request};
 use hdl_name::Name;
@@ -19,14 +21,27 @@ use std::alloc::{AllocError, Global};
 /// In which form a handle is answered.
 #[derive(Clone, Copy, PartialEq, Eq)]
 pub enum AnswerFormat {
-    /// Its URL is followed, if it has one.
-    Follow,
-    /// A page of its values.
-    Page,
+    /// Its URL is followed, if it has one; a page that is shown instead is in this language.
+    Follow(Language),
+    /// A page of its values, in this language.
+    Page(Language),
     /// JSON of its values, without a space.
     Json,
     /// The same JSON over many lines.
     Pretty,
+}
+
+impl AnswerFormat {
+    /// The language of what is said. JSON says it in English.
+    pub fn language(self) -> Language
+        ensures { result ≡ language_of self }
+    {
+        match self {
+            AnswerFormat::Follow(language) => language,
+            AnswerFormat::Page(language) => language,
+            AnswerFormat::Json | AnswerFormat::Pretty => Language::English,
+        }
+    }
 }
 
 /// A resolution: of which handle, in which form, which of its values (all of them where both lists are empty), what becomes of its URL, and which

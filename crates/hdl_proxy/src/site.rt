@@ -1,17 +1,18 @@
 //! What all pages of a site have: its name, its style, the contact, and the address at which they are cited.
 
 ghost use Rattle.std.specs.Prelude.{◌≡◌, ◌++◌, IfOk, OnOk, option_copied, option_map, string_bytes};
-ghost use Rattle.hdl_proxy.specs.Site.{IsAddressIn, IsBound, IsContactIn, IsContactOf, IsContactWay, IsDressed, IsSiteOf, about_part, address_part, contact_part, foot, front_part, page_of, redirect_cache_control, whole_address};
+ghost use Rattle.hdl_proxy.specs.Site.{IsAddressIn, IsBound, IsContactIn, IsContactOf, IsContactWay, IsDressed, IsSiteOf, about_part, address_part, contact_part, foot, front_part, is_bound, page_of, redirect_cache_control, whole_address};
 
-use crate::answer::{Answer, CacheControl, Media};
+use crate::answer::{Answer, CacheControl, Media, Status};
 use crate::link::Link;
 use crate::page::Page;
 use crate::step::within;
 use crate::url::is_site_address;
+use hdl_languages::{Language, Phrase};
 use std::alloc::{AllocError, Global};
 
-const HEAD: &str = "<!DOCTYPE html>
-<html lang=\"en\">
+/// Behind the language of a page.
+const HEAD: &str = "\">
 <head>
 <meta charset=\"utf-8\">
 <meta name=\"viewport\" content=\"width=device-width, initial-scale=1\">
@@ -96,6 +97,13 @@ const MAIN: &str = "</bdi></a></header>
 struct Contact {
     to: Link,
     text: String,
+}
+
+/// Whether it is a redirect, or says that a handle is gone.
+fn is_bound(answer: &Answer) -> bool
+    ensures { result ≡ is_bound answer.now }
+{
+    answer.location.is_some() || answer.status.number() == Status::Gone.number()
 }
 
 /// A site: its name, the contact for readers' questions, its address, and for how many seconds browsers keep its redirects at most.
@@ -194,13 +202,19 @@ fn put_about(
 #[tactic(auto, unfolding(crate::specs::Site::front_part))]
 fn put_front(
     page: &mut Page,
+    language: Language,
     title: &[u8],
     name: &[u8],
     address: &Option<String>,
 ) -> Result<(), AllocError>
-    ensures { OnOk result (page.new.octets.items ≡ page.old.octets.items ++ front_part title.now name.now (option_map string_bytes address.now)) }
+    ensures { OnOk result (page.new.octets.items ≡ page.old.octets.items ++ front_part language title.now name.now (option_map string_bytes address.now)) }
 {
-    page.markup(HEAD)?;
+    page.phrase(
+        language,
+        "<!DOCTYPE html>\n<html lang=\"",
+        Phrase::LanguageTag,
+        HEAD,
+    )?;
     page.text(title)?;
     page.element(" - ", name, "</title>\n")?;
     put_about(page, title, name, address)?;
@@ -210,19 +224,23 @@ fn put_front(
 }
 
 #[tactic(auto, unfolding(crate::specs::Site::contact_part))]
-fn put_contact(page: &mut Page, contact: &Contact) -> Result<(), AllocError>
-    ensures { OnOk result (page.new.octets.items ≡ page.old.octets.items ++ contact_part contact.now) }
+fn put_contact(page: &mut Page, language: Language, contact: &Contact) -> Result<(), AllocError>
+    ensures { OnOk result (page.new.octets.items ≡ page.old.octets.items ++ contact_part language contact.now) }
 {
-    page.markup("<footer>Questions? <a href=\"")?;
+    page.phrase(language, "<footer>", Phrase::Questions, " <a href=\"")?;
     page.text(contact.to.octets())?;
     page.element("\"><bdi>", contact.text.as_bytes(), "</bdi></a></footer>\n")
 }
 
-fn put_foot(page: &mut Page, contact: &Option<Contact>) -> Result<(), AllocError>
-    ensures { OnOk result (page.new.octets.items ≡ page.old.octets.items ++ foot contact.now) }
+fn put_foot(
+    page: &mut Page,
+    language: Language,
+    contact: &Option<Contact>,
+) -> Result<(), AllocError>
+    ensures { OnOk result (page.new.octets.items ≡ page.old.octets.items ++ foot language contact.now) }
 {
     match contact {
-        Some(contact) => put_contact(page, contact),
+        Some(contact) => put_contact(page, language, contact),
         None => Ok(()),
     }
 }
@@ -269,11 +287,11 @@ impl Site {
         }
     }
 
-    /// The answer as browsers may keep it: a redirect no longer than this site says, and all else as it is.
+    /// The answer as browsers may keep it: a redirect, and that a handle is gone, no longer than this site says, since both may be taken back; and all else as it is.
     pub fn bound(&self, answer: Answer) -> Answer
         ensures { IsBound self.now answer result }
     {
-        if answer.location.is_none() {
+        if !is_bound(&answer) {
             return answer;
         }
         within(self.redirect_cache_control(), answer)
@@ -283,30 +301,36 @@ impl Site {
     fn page(
         &self,
         alloc: Global,
+        language: Language,
         title: &[u8],
         address: &Option<String>,
         main: &Vec<u8>,
     ) -> Result<Vec<u8>, AllocError>
-        ensures { IfOk result (λ octets. octets.items ≡ page_of self.now title.now (option_map string_bytes address.now) main.now.items) }
+        ensures { IfOk result (λ octets. octets.items ≡ page_of self.now language title.now (option_map string_bytes address.now) main.now.items) }
     {
         let mut page = Page::empty(alloc);
-        put_front(&mut page, title, self.name.as_bytes(), address)?;
+        put_front(&mut page, language, title, self.name.as_bytes(), address)?;
         page.part(main)?;
         page.markup("</main>\n")?;
-        put_foot(&mut page, &self.contact)?;
+        put_foot(&mut page, language, &self.contact)?;
         page.markup("</body>\n</html>\n")?;
         Ok(page.into_octets())
     }
 
-    /// The answer as this site gives it: a page between the head and the foot of the site, and all else as it is.
-    pub fn dress(&self, alloc: Global, answer: Answer) -> Result<Answer, AllocError>
-        ensures { IfOk result (IsDressed self.now answer) }
+    /// The answer as this site gives it: a page between the head and the foot of the site, in this language, and all else as it is.
+    pub fn dress(
+        &self,
+        alloc: Global,
+        language: Language,
+        answer: Answer,
+    ) -> Result<Answer, AllocError>
+        ensures { IfOk result (IsDressed self.now language answer) }
     {
         if answer.media != Media::Page {
             return Ok(answer);
         }
         let about = whole_address(alloc, &self.address, &answer.about)?;
-        let body = self.page(alloc, &answer.title, &about, &answer.body)?;
+        let body = self.page(alloc, language, &answer.title, &about, &answer.body)?;
         Ok(Answer {
             about,
             body,

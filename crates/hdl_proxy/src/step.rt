@@ -18,6 +18,7 @@ use crate::pages::missing_page;
 use crate::proxy::{Next, answer_found, is_json};
 use crate::question::{AnswerFormat, Question};
 use crate::resolver::NoAnswer;
+use hdl_languages::{Language, Phrase};
 use hdl_name::Name;
 use std::alloc::{AllocError, Global};
 
@@ -26,10 +27,6 @@ pub const HOPS_MOST: usize = 10;
 
 /// The most other names that are tried where a handle isn't there.
 const TRIES_MOST: usize = 2;
-
-const CIRCLE: &str = "Its aliases lead in a circle:";
-
-const BEYOND: &str = "Its aliases lead on beyond ten handles:";
 
 /// The same answer, which others may keep no longer than this.
 pub(crate) fn within(cache_control: CacheControl, answer: Answer) -> Answer
@@ -42,14 +39,19 @@ pub(crate) fn within(cache_control: CacheControl, answer: Answer) -> Answer
 }
 
 /// The same page, which says which handle was asked for, by a link to its own values.
-fn of_alias(alloc: Global, asked: &Name, answer: Answer) -> Result<Answer, AllocError>
-    ensures { IfOk result (IsOfAlias asked.now answer) }
+fn of_alias(
+    alloc: Global,
+    language: Language,
+    asked: &Name,
+    answer: Answer,
+) -> Result<Answer, AllocError>
+    ensures { IfOk result (IsOfAlias language asked.now answer) }
 {
     let mut title = Vec::from_slice(alloc, asked.sent())?;
-    title.extend_from_slice(b", an alias: ")?;
+    title.extend_from_slice(language.words(Phrase::AnAlias).as_bytes())?;
     title.extend_from_slice(&answer.title)?;
     let mut page = Page::empty(alloc);
-    put_alias(&mut page, asked)?;
+    put_alias(&mut page, language, asked)?;
     page.part(&answer.body)?;
     Ok(Answer {
         title,
@@ -61,13 +63,14 @@ fn of_alias(alloc: Global, asked: &Name, answer: Answer) -> Result<Answer, Alloc
 /// The same answer: a page says which handle was asked for, where aliases led on from one.
 fn with_asked_name(
     alloc: Global,
+    language: Language,
     asked: Option<&Name>,
     answer: Answer,
 ) -> Result<Answer, AllocError>
-    ensures { IfOk result (IsNamed (option_copied asked.entry) answer) }
+    ensures { IfOk result (IsNamed language (option_copied asked.entry) answer) }
 {
     match asked {
-        Some(asked) if answer.media == Media::Page => of_alias(alloc, asked, answer),
+        Some(asked) if answer.media == Media::Page => of_alias(alloc, language, asked, answer),
         _ => Ok(answer),
     }
 }
@@ -79,7 +82,12 @@ fn end(alloc: Global, question: &Question, found: &Found, chance: u64) -> Result
 {
     let answer = answer_found(alloc, question, found, chance)?;
     let kept = within(question.cache_control, answer);
-    with_asked_name(alloc, question.passed.first(), kept)
+    with_asked_name(
+        alloc,
+        question.form.language(),
+        question.passed.first(),
+        kept,
+    )
 }
 
 /// The first of these handles.
@@ -96,20 +104,21 @@ fn first_of(names: &[Name]) -> &[u8]
 fn nowhere(
     alloc: Global,
     form: AnswerFormat,
-    front: &str,
+    front: Phrase,
     asked: &[Name],
     target: &Name,
 ) -> Result<Answer, AllocError>
-    ensures { IfOk result (LeadsNowhere form front.now asked.now target.now) }
+    ensures { IfOk result (LeadsNowhere form front asked.now target.now) }
 {
     let handle = first_of(asked);
     match form {
         AnswerFormat::Json | AnswerFormat::Pretty => {
-            let why = way_words(alloc, front, asked, target)?;
+            let words = Language::English.words(front);
+            let why = way_words(alloc, words, asked, target)?;
             refusal(alloc, Status::NotFound, handle, TOO_FAR, why.as_str())
         }
-        AnswerFormat::Follow | AnswerFormat::Page => nowhere_page(
-            alloc, handle, front, asked, target,
+        AnswerFormat::Follow(language) | AnswerFormat::Page(language) => nowhere_page(
+            alloc, language, handle, front, asked, target,
         ),
     }
 }
@@ -133,11 +142,11 @@ fn follow(alloc: Global, question: Question, hop: Hop) -> Result<Next, AllocErro
     let hops = asked.len();
     asked.push(name)?;
     if is_among(&asked, &hop.target) {
-        let answer = nowhere(alloc, form, CIRCLE, &asked, &hop.target)?;
+        let answer = nowhere(alloc, form, Phrase::InACircle, &asked, &hop.target)?;
         return Ok(Next::Answer(answer));
     }
     if hops >= HOPS_MOST {
-        let answer = nowhere(alloc, form, BEYOND, &asked, &hop.target)?;
+        let answer = nowhere(alloc, form, Phrase::BeyondTen, &asked, &hop.target)?;
         return Ok(Next::Answer(answer));
     }
     Ok(Next::Ask(Question {
@@ -183,12 +192,13 @@ fn try_next(alloc: Global, question: Question) -> Result<Next, AllocError>
     ensures tries { IfOk result (TriesNext question) }
     ensures located { IfOk result IsLocatedIfAnswered }
 {
+    let language = question.form.language();
     let mut tried = question.tried;
     tried.push(question.name)?;
     match guess_after(alloc, &tried, first_of(&tried))? {
         Some(name) => Ok(Next::Ask(Question {
             name,
-            form: AnswerFormat::Page,
+            form: AnswerFormat::Page(language),
             indexes: Vec::new(alloc),
             types: Vec::new(alloc),
             append: Vec::new(alloc),
@@ -199,7 +209,7 @@ fn try_next(alloc: Global, question: Question) -> Result<Next, AllocError>
             cache_control: CacheControl::Never,
             anew: question.anew,
         })),
-        None => Ok(Next::Answer(missing_page(alloc, first_of(&tried), None)?)),
+        None => Ok(Next::Answer(missing_page(alloc, language, first_of(&tried), None)?)),
     }
 }
 
@@ -225,7 +235,10 @@ fn end_at(
     ensures located { IfOk result IsLocated }
 {
     match question.tried.first() {
-        Some(asked) => missing_page(alloc, asked.sent(), meant_in(question, found)),
+        Some(asked) => {
+            let language = question.form.language();
+            missing_page(alloc, language, asked.sent(), meant_in(question, found))
+        }
         None => end(alloc, question, found, chance),
     }
 }

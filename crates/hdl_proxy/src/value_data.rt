@@ -9,6 +9,7 @@ use crate::choice::is_alias;
 use crate::link::Link;
 use crate::names::read_name;
 use crate::page::Page;
+use hdl_languages::{Language, Phrase};
 use hdl_name::Name;
 use hdl_value::{AdminMask, AdminPermission, Reference, Value, admin_of, vlist_of};
 use std::alloc::{AllocError, Global};
@@ -39,115 +40,157 @@ fn is_plain(octets: &[u8]) -> bool
 /// An item of a list, where the mask has this permission.
 fn put_permission(
     page: &mut Page,
+    language: Language,
     mask: AdminMask,
     permission: AdminPermission,
-    item: &'static str,
+    item: Phrase,
 ) -> Result<(), AllocError>
-    ensures { OnOk result (page.new.octets.items ≡ page.old.octets.items ++ permission_part mask.0 permission item.now) }
+    ensures { OnOk result (page.new.octets.items ≡ page.old.octets.items ++ permission_part language mask.0 permission item) }
 {
     if mask.permits(permission) {
-        return page.markup(item);
+        return page.phrase(language, "<li>", item, "</li>");
     }
     Ok(())
 }
 
 #[tactic(auto, unfolding(crate::specs::Pages::handle_permissions))]
-fn put_handle_permissions(page: &mut Page, mask: AdminMask) -> Result<(), AllocError>
-    ensures { OnOk result (page.new.octets.items ≡ page.old.octets.items ++ handle_permissions mask.0) }
+fn put_handle_permissions(
+    page: &mut Page,
+    language: Language,
+    mask: AdminMask,
+) -> Result<(), AllocError>
+    ensures { OnOk result (page.new.octets.items ≡ page.old.octets.items ++ handle_permissions language mask.0) }
 {
     put_permission(
         page,
+        language,
         mask,
         AdminPermission::AddHandle,
-        "<li>create handles</li>",
+        Phrase::CreateHandles,
     )?;
     put_permission(
         page,
+        language,
         mask,
         AdminPermission::DeleteHandle,
-        "<li>delete them</li>",
+        Phrase::DeleteHandles,
     )?;
     put_permission(
         page,
+        language,
         mask,
         AdminPermission::ListHandle,
-        "<li>list them</li>",
+        Phrase::ListHandles,
     )?;
     put_permission(
         page,
+        language,
         mask,
         AdminPermission::AuthorizedRead,
-        "<li>read what isn't public</li>",
+        Phrase::ReadHidden,
     )
 }
 
 #[tactic(auto, unfolding(crate::specs::Pages::value_permissions))]
-fn put_value_permissions(page: &mut Page, mask: AdminMask) -> Result<(), AllocError>
-    ensures { OnOk result (page.new.octets.items ≡ page.old.octets.items ++ value_permissions mask.0) }
+fn put_value_permissions(
+    page: &mut Page,
+    language: Language,
+    mask: AdminMask,
+) -> Result<(), AllocError>
+    ensures { OnOk result (page.new.octets.items ≡ page.old.octets.items ++ value_permissions language mask.0) }
 {
-    put_permission(page, mask, AdminPermission::AddValue, "<li>add values</li>")?;
     put_permission(
         page,
+        language,
         mask,
-        AdminPermission::ModifyValue,
-        "<li>change values</li>",
+        AdminPermission::AddValue,
+        Phrase::AddValues,
     )?;
     put_permission(
         page,
+        language,
+        mask,
+        AdminPermission::ModifyValue,
+        Phrase::ChangeValues,
+    )?;
+    put_permission(
+        page,
+        language,
         mask,
         AdminPermission::DeleteValue,
-        "<li>remove values</li>",
+        Phrase::RemoveValues,
     )
 }
 
 #[tactic(auto, unfolding(crate::specs::Pages::admin_permissions))]
-fn put_admin_permissions(page: &mut Page, mask: AdminMask) -> Result<(), AllocError>
-    ensures { OnOk result (page.new.octets.items ≡ page.old.octets.items ++ admin_permissions mask.0) }
+fn put_admin_permissions(
+    page: &mut Page,
+    language: Language,
+    mask: AdminMask,
+) -> Result<(), AllocError>
+    ensures { OnOk result (page.new.octets.items ≡ page.old.octets.items ++ admin_permissions language mask.0) }
 {
     put_permission(
         page,
+        language,
         mask,
         AdminPermission::AddAdmin,
-        "<li>add administrators</li>",
+        Phrase::AddAdministrators,
     )?;
     put_permission(
         page,
+        language,
         mask,
         AdminPermission::ModifyAdmin,
-        "<li>change administrators</li>",
+        Phrase::ChangeAdministrators,
     )?;
     put_permission(
         page,
+        language,
         mask,
         AdminPermission::RemoveAdmin,
-        "<li>remove administrators</li>",
+        Phrase::RemoveAdministrators,
     )
 }
 
 /// What an administrator may do, but for what nothing asks for.
 #[tactic(auto, unfolding(crate::specs::Pages::permissions_part))]
-fn put_permissions(page: &mut Page, mask: AdminMask) -> Result<(), AllocError>
-    ensures { OnOk result (page.new.octets.items ≡ page.old.octets.items ++ permissions_part mask.0) }
+fn put_permissions(page: &mut Page, language: Language, mask: AdminMask) -> Result<(), AllocError>
+    ensures { OnOk result (page.new.octets.items ≡ page.old.octets.items ++ permissions_part language mask.0) }
 {
     page.markup("<ul class=\"may\">")?;
-    put_handle_permissions(page, mask)?;
-    put_value_permissions(page, mask)?;
-    put_admin_permissions(page, mask)?;
+    put_handle_permissions(page, language, mask)?;
+    put_value_permissions(page, language, mask)?;
+    put_admin_permissions(page, language, mask)?;
     page.markup("</ul>\n")
 }
 
 #[tactic(auto, unfolding(crate::specs::Pages::admin_part))]
-fn put_admin(page: &mut Page, mask: AdminMask, key: &Reference) -> Result<(), AllocError>
-    ensures { OnOk result (page.new.octets.items ≡ page.old.octets.items ++ admin_part (mask.0, raw key.now)) }
+fn put_admin(
+    page: &mut Page,
+    language: Language,
+    mask: AdminMask,
+    key: &Reference,
+) -> Result<(), AllocError>
+    ensures { OnOk result (page.new.octets.items ≡ page.old.octets.items ++ admin_part language (mask.0, raw key.now)) }
 {
-    page.markup(
-        "<details><summary>Who may change this handle</summary>\n<p>The holder of the key <span class=\"data\">",
+    page.phrase(
+        language,
+        "<details><summary>",
+        Phrase::WhoMayChange,
+        "</summary>\n",
+    )?;
+    page.phrase(
+        language,
+        "<p>",
+        Phrase::HolderOfKey,
+        " <span class=\"data\">",
     )?;
     page.number(key.index)?;
     page.markup(":<bdi>")?;
     page.text(key.name.sent())?;
-    page.markup("</bdi></span> may</p>\n")?;
-    put_permissions(page, mask)?;
+    page.phrase(language, "</bdi></span> ", Phrase::May, "</p>\n")?;
+    put_permissions(page, language, mask)?;
     page.markup("</details>\n")
 }
 
@@ -183,22 +226,22 @@ fn put_link(page: &mut Page, to: &Link, text: &[u8]) -> Result<(), AllocError>
 }
 
 #[tactic(auto, unfolding(crate::specs::Pages::digits_part))]
-fn put_digits(page: &mut Page, octets: &[u8]) -> Result<(), AllocError>
-    ensures { OnOk result (page.new.octets.items ≡ page.old.octets.items ++ digits_part octets.now) }
+fn put_digits(page: &mut Page, language: Language, octets: &[u8]) -> Result<(), AllocError>
+    ensures { OnOk result (page.new.octets.items ≡ page.old.octets.items ++ digits_part language octets.now) }
 {
     let digits = hex::encode(page.alloc, octets)?;
     let count = format!(in page.alloc; "{}", octets.len())?;
-    page.markup("<p>Not text. Length in bytes: ")?;
+    page.phrase(language, "<p>", Phrase::NotText, " ")?;
     page.text(count.as_bytes())?;
     page.markup("</p>\n")?;
     page.element("<p class=\"data\">", digits.as_bytes(), "</p>\n")
 }
 
-fn put_octets(page: &mut Page, octets: &[u8]) -> Result<(), AllocError>
-    ensures { OnOk result ((part : List ℕ) × IsOctetsPart octets.now part × (page.new.octets.items ≡ page.old.octets.items ++ part)) }
+fn put_octets(page: &mut Page, language: Language, octets: &[u8]) -> Result<(), AllocError>
+    ensures { OnOk result ((part : List ℕ) × IsOctetsPart language octets.now part × (page.new.octets.items ≡ page.old.octets.items ++ part)) }
 {
     if !is_plain(octets) {
-        return put_digits(page, octets);
+        return put_digits(page, language, octets);
     }
     match Link::of_url(page.alloc, octets)? {
         Some(link) => put_link(page, &link, octets),
@@ -230,24 +273,24 @@ fn put_alias_link(page: &mut Page, name: &Name) -> Result<(), AllocError>
 }
 
 /// An alias as a link to the page of the other handle's own values, and else the octets.
-fn put_text(page: &mut Page, value: &Value) -> Result<(), AllocError>
-    ensures { OnOk result ((part : List ℕ) × IsTextPart value.now part × (page.new.octets.items ≡ page.old.octets.items ++ part)) }
+fn put_text(page: &mut Page, language: Language, value: &Value) -> Result<(), AllocError>
+    ensures { OnOk result ((part : List ℕ) × IsTextPart language value.now part × (page.new.octets.items ≡ page.old.octets.items ++ part)) }
 {
     match alias_name(page.alloc, value)? {
         Some(name) => put_alias_link(page, &name),
-        None => put_octets(page, value.bytes.as_slice()),
+        None => put_octets(page, language, value.bytes.as_slice()),
     }
 }
 
 /// What a value's data is: an administrator, a list of references, or text.
-pub(crate) fn put_data(page: &mut Page, value: &Value) -> Result<(), AllocError>
-    ensures { OnOk result ((part : List ℕ) × IsDataPart value.now part × (page.new.octets.items ≡ page.old.octets.items ++ part)) }
+pub(crate) fn put_data(page: &mut Page, language: Language, value: &Value) -> Result<(), AllocError>
+    ensures { OnOk result ((part : List ℕ) × IsDataPart language value.now part × (page.new.octets.items ≡ page.old.octets.items ++ part)) }
 {
     if let Some((mask, key)) = admin_of(page.alloc, value)? {
-        return put_admin(page, mask, &key);
+        return put_admin(page, language, mask, &key);
     }
     if let Some(references) = vlist_of(page.alloc, value)? {
         return put_list(page, &references);
     }
-    put_text(page, value)
+    put_text(page, language, value)
 }

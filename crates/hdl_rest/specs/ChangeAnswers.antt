@@ -31,7 +31,7 @@ response_status None = BadGateway
 
 abbrev pub response_words : Option ResponseCode → List ℕ
 response_words (Some response.Error) = codes "The server's answer would be too long."
-response_words (Some response.ServerBusy) = codes "The server is busy. Please try again."
+response_words (Some response.ServerBusy) = codes "The server is busy, or the space of this prefix there is full. Try again; if it stays so, ask its operator."
 response_words (Some response.OperationDenied) = codes "This server takes no such change. If it is read-only, send the change to the server that isn't. Handles under 0.NA can't be created or deleted."
 response_words (Some response.HandleNotFound) = codes "This handle isn't there."
 response_words (Some response.HandleAlreadyExists) = codes "This handle is there already."

@@ -48,7 +48,8 @@ pub(crate) fn change_words(code: u32) -> &'static str
 {
     match ResponseCode::of(code) {
         Some(ResponseCode::Error) => "The server's answer would be too long.",
-        Some(ResponseCode::ServerBusy) => "The server is busy. Please try again.",
+        Some(ResponseCode::ServerBusy) =>
+            "The server is busy, or the space of this prefix there is full. Try again; if it stays so, ask its operator.",
         Some(ResponseCode::OperationDenied) =>
             "This server takes no such change. If it is read-only, send the change to the server that isn't. Handles under 0.NA can't be created or deleted.",
         Some(ResponseCode::HandleNotFound) => "This handle isn't there.",

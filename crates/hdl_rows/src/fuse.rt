@@ -8,6 +8,7 @@ ghost use Rattle.hdl_rows.specs.Reads.{reads_after, nothing, of_value, values_oc
 ghost use Rattle.hdl_rows.specs.Table.{most, refusals_after, has, at, values_of, values_in, names_of, HaveTheirIndexes, with_new_handle, with_values, without_values, without_handle, AreDistinct, AreAbsent, ArePresent, indexes};
 
 use crate::owing::{Owed, Owing};
+use crate::provenance::Provenance;
 use crate::rows::{Refused, Rows};
 use hdl_limits::Octets;
 use hdl_name::Name;
@@ -172,7 +173,12 @@ impl<R: Rows> Rows for Fuse<R> {
         self.inner.names(authority)
     }
 
-    fn create(&mut self, name: &Name, values: &[Value]) -> Result<(), Refused>
+    fn create(
+        &mut self,
+        name: &Name,
+        values: &[Value],
+        provenance: &Provenance<'_>,
+    ) -> Result<(), Refused>
         requires absent { has (R.content (inner_of self.old)) (canonical name.now) ≡ false }
         requires distinct { AreDistinct (indexes values.now) }
         ensures done { OnOk result (R.content (inner_of self.new) ≡ with_new_handle (R.content (inner_of self.old)) (canonical name.now) values.now) }
@@ -186,10 +192,15 @@ impl<R: Rows> Rows for Fuse<R> {
         if self.wire.count_call() {
             return Err(Refused);
         }
-        self.inner.create(name, values)
+        self.inner.create(name, values, provenance)
     }
 
-    fn add(&mut self, name: &Name, values: &[Value]) -> Result<(), Refused>
+    fn add(
+        &mut self,
+        name: &Name,
+        values: &[Value],
+        provenance: &Provenance<'_>,
+    ) -> Result<(), Refused>
         requires there { has (R.content (inner_of self.old)) (canonical name.now) ≡ true }
         requires distinct { AreDistinct (indexes values.now) }
         requires free { AreAbsent (R.content (inner_of self.old)) (canonical name.now) (indexes values.now) }
@@ -204,10 +215,15 @@ impl<R: Rows> Rows for Fuse<R> {
         if self.wire.count_call() {
             return Err(Refused);
         }
-        self.inner.add(name, values)
+        self.inner.add(name, values, provenance)
     }
 
-    fn modify(&mut self, name: &Name, values: &[Value]) -> Result<(), Refused>
+    fn modify(
+        &mut self,
+        name: &Name,
+        values: &[Value],
+        provenance: &Provenance<'_>,
+    ) -> Result<(), Refused>
         requires there { has (R.content (inner_of self.old)) (canonical name.now) ≡ true }
         requires distinct { AreDistinct (indexes values.now) }
         requires taken { ArePresent (R.content (inner_of self.old)) (canonical name.now) (indexes values.now) }
@@ -222,10 +238,15 @@ impl<R: Rows> Rows for Fuse<R> {
         if self.wire.count_call() {
             return Err(Refused);
         }
-        self.inner.modify(name, values)
+        self.inner.modify(name, values, provenance)
     }
 
-    fn remove(&mut self, name: &Name, indexes: &[u32]) -> Result<(), Refused>
+    fn remove(
+        &mut self,
+        name: &Name,
+        indexes: &[u32],
+        provenance: &Provenance<'_>,
+    ) -> Result<(), Refused>
         requires there { has (R.content (inner_of self.old)) (canonical name.now) ≡ true }
         requires distinct { AreDistinct indexes.now }
         requires taken { ArePresent (R.content (inner_of self.old)) (canonical name.now) indexes.now }
@@ -240,10 +261,10 @@ impl<R: Rows> Rows for Fuse<R> {
         if self.wire.count_call() {
             return Err(Refused);
         }
-        self.inner.remove(name, indexes)
+        self.inner.remove(name, indexes, provenance)
     }
 
-    fn delete(&mut self, name: &Name) -> Result<(), Refused>
+    fn delete(&mut self, name: &Name, provenance: &Provenance<'_>) -> Result<(), Refused>
         requires there { has (R.content (inner_of self.old)) (canonical name.now) ≡ true }
         ensures done { OnOk result (R.content (inner_of self.new) ≡ without_handle (R.content (inner_of self.old)) (canonical name.now)) }
         ensures undone { OnErr result (R.content (inner_of self.new) ≡ R.content (inner_of self.old)) }
@@ -256,7 +277,7 @@ impl<R: Rows> Rows for Fuse<R> {
         if self.wire.count_call() {
             return Err(Refused);
         }
-        self.inner.delete(name)
+        self.inner.delete(name, provenance)
     }
 
     fn refusals(&self) -> u64 {

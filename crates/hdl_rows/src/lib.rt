@@ -17,7 +17,7 @@
 //! let mut rows = PlainRows::new(rt.alloc());
 //! let name = Name::read(rt.alloc(), b"10/b")?;
 //! assert!(rt; !rows.exists(&name)?);
-//! rows.create(&name, &[])?;
+//! rows.create(&name, &[], &Provenance::opening())?;
 //! assert!(rt; rows.exists(&name)?);
 //! ```
 //!
@@ -31,6 +31,7 @@
 //!   handle begins with its authority.
 //! - **`reads` counts what calls return**, and not what a table does internally, which no clause can state. An entry
 //!   counts as many octets as in a message. So more than a message can hold is more than a table may return.
+//! - **A write is given its [`Provenance`]**, which a table may record (hdl_history). So who asked for a write is an argument of that write, and no state of the table.
 //! - **`look` exists in addition to `exists` and `values`**, because a resolution asks both. A table whose values are
 //!   all at its handles can answer both by one query. No table has to be `IsPlaced` for it.
 //! - **No clause bounds the steps of a look-up**: contracts state what is found. `bench/replay` measures it.
@@ -41,6 +42,7 @@ pub mod heads;
 pub mod laws;
 mod owing;
 mod plain;
+mod provenance;
 pub mod reads;
 mod row;
 mod row_store;
@@ -49,5 +51,6 @@ mod rows;
 pub use fuse::Fuse;
 pub use owing::{Owed, Owing, Synchronous};
 pub use plain::PlainRows;
+pub use provenance::{Agent, Provenance};
 pub use row::value_with;
 pub use rows::{Refused, Rows};

@@ -3,6 +3,7 @@
 ghost use Rattle.std.specs.Prelude.{◌≡◌, MatchResult, IsErr, Ok, IfOk, option_copied};
 ghost use Rattle.hdl_rows.specs.Table.{no_rows, refusals_after};
 
+use crate::provenance::Provenance;
 use crate::reads::{found_octets, names_octets, seen_octets, values_octets, with_call};
 use crate::row_store::RowStore;
 use crate::rows::{Refused, Rows};
@@ -123,29 +124,49 @@ impl Rows for PlainRows {
         Ok(names)
     }
 
-    fn create(&mut self, name: &Name, values: &[Value]) -> Result<(), Refused> {
+    fn create(
+        &mut self,
+        name: &Name,
+        values: &[Value],
+        _provenance: &Provenance<'_>,
+    ) -> Result<(), Refused> {
         // `authority` says that the handle begins with it.
         let _ = name.authority();
         let done = self.row_store.create(self.alloc, name.canon(), values);
         tally(&mut self.refusals, done)
     }
 
-    fn add(&mut self, name: &Name, values: &[Value]) -> Result<(), Refused> {
+    fn add(
+        &mut self,
+        name: &Name,
+        values: &[Value],
+        _provenance: &Provenance<'_>,
+    ) -> Result<(), Refused> {
         let done = self.row_store.put(self.alloc, name.canon(), values);
         tally(&mut self.refusals, done)
     }
 
-    fn modify(&mut self, name: &Name, values: &[Value]) -> Result<(), Refused> {
+    fn modify(
+        &mut self,
+        name: &Name,
+        values: &[Value],
+        _provenance: &Provenance<'_>,
+    ) -> Result<(), Refused> {
         let done = self.row_store.put(self.alloc, name.canon(), values);
         tally(&mut self.refusals, done)
     }
 
-    fn remove(&mut self, name: &Name, indexes: &[u32]) -> Result<(), Refused> {
+    fn remove(
+        &mut self,
+        name: &Name,
+        indexes: &[u32],
+        _provenance: &Provenance<'_>,
+    ) -> Result<(), Refused> {
         self.row_store.remove(name.canon(), indexes);
         Ok(())
     }
 
-    fn delete(&mut self, name: &Name) -> Result<(), Refused> {
+    fn delete(&mut self, name: &Name, _provenance: &Provenance<'_>) -> Result<(), Refused> {
         self.row_store.delete(name.canon());
         Ok(())
     }

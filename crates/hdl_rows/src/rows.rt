@@ -7,6 +7,7 @@ ghost use Rattle.hdl_rows.specs.Heads.{heads_of};
 ghost use Rattle.hdl_rows.specs.Reads.{reads_after, nothing, of_value, values_octets, names_octets};
 ghost use Rattle.hdl_rows.specs.Table.{Table, has, at, values_of, values_in, names_of, HaveTheirIndexes, with_new_handle, with_values, without_values, without_handle, AreDistinct, AreAbsent, ArePresent, indexes, refusals_after};
 
+use crate::provenance::Provenance;
 use hdl_limits::Octets;
 use hdl_name::Name;
 use hdl_value::{Reference, Value};
@@ -25,7 +26,8 @@ impl From<AllocError> for Refused {
 /// A finite set of canonical handles, and a finite map from places (canonical handle, index) to values.
 ///
 /// A name stands for its canonical form in every call: `10.ABC/x` and `10.abc/x` are one handle. Each call does the
-/// whole of its operation, or is refused and leaves the table as it was.
+/// whole of its operation, or is refused and leaves the table as it was. What becomes of the table doesn't depend on
+/// who asks for a write.
 pub trait Rows {
     /// The contents, for any storage.
     ghost content: { Self → Table };
@@ -86,7 +88,12 @@ pub trait Rows {
         ensures reads { reads self.new ≡ reads_after (λ all. names_octets all.items) result (reads self.old) };
 
     /// Creates an absent handle with these values.
-    fn create(&mut self, name: &Name, values: &[Value]) -> Result<(), Refused>
+    fn create(
+        &mut self,
+        name: &Name,
+        values: &[Value],
+        provenance: &Provenance<'_>,
+    ) -> Result<(), Refused>
         requires absent { has (content self.old) (canonical name.now) ≡ false }
         requires distinct { AreDistinct (indexes values.now) }
         ensures done { OnOk result (content self.new ≡ with_new_handle (content self.old) (canonical name.now) values.now) }
@@ -95,7 +102,12 @@ pub trait Rows {
         ensures reads { reads self.new ≡ reads self.old };
 
     /// Adds values to a handle, at indexes where there is none.
-    fn add(&mut self, name: &Name, values: &[Value]) -> Result<(), Refused>
+    fn add(
+        &mut self,
+        name: &Name,
+        values: &[Value],
+        provenance: &Provenance<'_>,
+    ) -> Result<(), Refused>
         requires there { has (content self.old) (canonical name.now) ≡ true }
         requires distinct { AreDistinct (indexes values.now) }
         requires free { AreAbsent (content self.old) (canonical name.now) (indexes values.now) }
@@ -105,7 +117,12 @@ pub trait Rows {
         ensures reads { reads self.new ≡ reads self.old };
 
     /// Replaces the values of a handle at these indexes as a whole.
-    fn modify(&mut self, name: &Name, values: &[Value]) -> Result<(), Refused>
+    fn modify(
+        &mut self,
+        name: &Name,
+        values: &[Value],
+        provenance: &Provenance<'_>,
+    ) -> Result<(), Refused>
         requires there { has (content self.old) (canonical name.now) ≡ true }
         requires distinct { AreDistinct (indexes values.now) }
         requires taken { ArePresent (content self.old) (canonical name.now) (indexes values.now) }
@@ -115,7 +132,12 @@ pub trait Rows {
         ensures reads { reads self.new ≡ reads self.old };
 
     /// Removes values from a handle. The handle stays, even without values.
-    fn remove(&mut self, name: &Name, indexes: &[u32]) -> Result<(), Refused>
+    fn remove(
+        &mut self,
+        name: &Name,
+        indexes: &[u32],
+        provenance: &Provenance<'_>,
+    ) -> Result<(), Refused>
         requires there { has (content self.old) (canonical name.now) ≡ true }
         requires distinct { AreDistinct indexes.now }
         requires taken { ArePresent (content self.old) (canonical name.now) indexes.now }
@@ -125,7 +147,7 @@ pub trait Rows {
         ensures reads { reads self.new ≡ reads self.old };
 
     /// Deletes a handle with all its values.
-    fn delete(&mut self, name: &Name) -> Result<(), Refused>
+    fn delete(&mut self, name: &Name, provenance: &Provenance<'_>) -> Result<(), Refused>
         requires there { has (content self.old) (canonical name.now) ≡ true }
         ensures done { OnOk result (content self.new ≡ without_handle (content self.old) (canonical name.now)) }
         ensures undone { OnErr result (content self.new ≡ content self.old) }

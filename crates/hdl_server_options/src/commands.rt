@@ -189,6 +189,12 @@ fn monitoring_args<'a>(alloc: Global, command: Command<'a>) -> Result<Command<'a
         ))?
         .arg(option(
             alloc,
+            "history",
+            "FILE",
+            "Appends each change to FILE, with its moment, its key and the values before, for `hdl history` and `hdl undo`",
+        ))?
+        .arg(option(
+            alloc,
             "status",
             "ADDRESS:PORT",
             "Answers /health and /metrics over HTTP at this address",
@@ -197,7 +203,7 @@ fn monitoring_args<'a>(alloc: Global, command: Command<'a>) -> Result<Command<'a
             alloc,
             "control",
             "PATH",
-            "The Unix socket at which `handled stop` ends the server, and `handled reopen` opens its log anew",
+            "The Unix socket at which `handled stop` ends the server, and `handled reopen` opens its log and history anew",
         ))?
         .arg(option(
             alloc,
@@ -255,7 +261,7 @@ fn stop_command<'a>(alloc: Global) -> Result<Command<'a>, AllocError> {
 fn reopen_command<'a>(alloc: Global) -> Result<Command<'a>, AllocError> {
     Command::new(alloc, "reopen")
         .about(
-            "Has a server open the file of its log anew once it was renamed; it does so within two seconds",
+            "Has a server open the files of its log and history anew once they were renamed; it does so within two seconds",
         )
         .arg(control_arg(alloc))
 }

@@ -49,6 +49,8 @@ pub struct LimitOptions {
 pub struct MonitoringOptions {
     /// The path of the log of changes, `-` for standard error.
     pub log: Option<String>,
+    /// The path of the history of changes.
+    pub history: Option<String>,
     pub status: Option<SocketAddr>,
     /// The path of the socket at which the word to end is taken.
     pub control: Option<String>,
@@ -119,7 +121,7 @@ pub enum Invocation {
     Stop {
         control: String,
     },
-    /// The server that listens at this socket is asked to open the file of its log anew.
+    /// The server that listens at this socket is asked to open the files of its log and history anew.
     Reopen {
         control: String,
     },

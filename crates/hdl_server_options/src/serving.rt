@@ -135,8 +135,10 @@ fn monitoring(alloc: Global, found: &ArgMatches) -> Result<MonitoringOptions, Ar
     let proxied = proxied(alloc, found)?;
     let control = copy_of(alloc, found.get_str("control"))?;
     let log = copy_of(alloc, found.get_str("log"))?;
+    let history = copy_of(alloc, found.get_str("history"))?;
     Ok(MonitoringOptions {
         log,
+        history,
         status,
         control,
         proxied,

@@ -8,7 +8,7 @@ use crate::{heads, memory, queries};
 use hdl_limits::Octets;
 use hdl_name::Name;
 use hdl_rows::reads::{found_octets, names_octets, seen_octets, values_octets, with_call};
-use hdl_rows::{Owed, Owing, Refused, Rows, Synchronous};
+use hdl_rows::{Owed, Owing, Provenance, Refused, Rows, Synchronous};
 use hdl_value::{Reference, Value};
 use sqlite::{Connection, MemStore};
 use std::alloc::Global;
@@ -121,28 +121,48 @@ impl Rows for SqlRows {
         Ok(names)
     }
 
-    fn create(&mut self, name: &Name, values: &[Value]) -> Result<(), Refused> {
+    fn create(
+        &mut self,
+        name: &Name,
+        values: &[Value],
+        _provenance: &Provenance<'_>,
+    ) -> Result<(), Refused> {
         let authority = name.authority();
         let done = memory::create(&mut self.conn, self.alloc, name.canon(), authority, values);
         tally(&mut self.refusals, done)
     }
 
-    fn add(&mut self, name: &Name, values: &[Value]) -> Result<(), Refused> {
+    fn add(
+        &mut self,
+        name: &Name,
+        values: &[Value],
+        _provenance: &Provenance<'_>,
+    ) -> Result<(), Refused> {
         let done = memory::add(&mut self.conn, self.alloc, name.canon(), values);
         tally(&mut self.refusals, done)
     }
 
-    fn modify(&mut self, name: &Name, values: &[Value]) -> Result<(), Refused> {
+    fn modify(
+        &mut self,
+        name: &Name,
+        values: &[Value],
+        _provenance: &Provenance<'_>,
+    ) -> Result<(), Refused> {
         let done = memory::modify(&mut self.conn, self.alloc, name.canon(), values);
         tally(&mut self.refusals, done)
     }
 
-    fn remove(&mut self, name: &Name, indexes: &[u32]) -> Result<(), Refused> {
+    fn remove(
+        &mut self,
+        name: &Name,
+        indexes: &[u32],
+        _provenance: &Provenance<'_>,
+    ) -> Result<(), Refused> {
         let done = memory::remove(&mut self.conn, name.canon(), indexes);
         tally(&mut self.refusals, done)
     }
 
-    fn delete(&mut self, name: &Name) -> Result<(), Refused> {
+    fn delete(&mut self, name: &Name, _provenance: &Provenance<'_>) -> Result<(), Refused> {
         let done = memory::delete(&mut self.conn, name.canon());
         tally(&mut self.refusals, done)
     }

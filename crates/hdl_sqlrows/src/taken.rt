@@ -11,7 +11,7 @@ ghost use Rattle.hdl_sqlrows.specs.Loaded.{entry_shown};
 use crate::cells::{blob_at, value_from};
 use crate::fault::LoadFault;
 use hdl_name::{Name, NameFault};
-use hdl_rows::Rows;
+use hdl_rows::{Provenance, Rows};
 use hdl_value::{Reference, Value};
 use sqlite::Row;
 use std::alloc::Global;
@@ -69,7 +69,7 @@ pub(crate) fn take_handle<R: Rows>(
     if rows.exists(&name)? {
         return Err(LoadFault::TwoRows);
     }
-    rows.create(&name, &[])?;
+    rows.create(&name, &[], &Provenance::opening())?;
     Ok(id)
 }
 
@@ -89,7 +89,7 @@ fn put_value<R: Rows>(rows: &mut R, name: Name, value: &Value) -> Result<(), Loa
     if rows.at(&place)?.is_some() {
         return Err(LoadFault::TwoValues);
     }
-    Ok(rows.add(&place.name, slice::from_ref(value))?)
+    Ok(rows.add(&place.name, slice::from_ref(value), &Provenance::opening())?)
 }
 
 /// Puts the value of a row of `entries` into the table, and returns the rowid. The row is as `SELECT idx, kind, bytes,

@@ -14,6 +14,7 @@ pub struct BoundStatus {
     publisher: String,
     most_values: u64,
     most_octets: u64,
+    held_handles: AtomicU64,
     held_values: AtomicU64,
     held_octets: AtomicU64,
 }
@@ -32,13 +33,15 @@ impl BoundStatus {
             publisher: String::from_str(alloc, publisher)?,
             most_values,
             most_octets,
+            held_handles: AtomicU64::new(0),
             held_values: AtomicU64::new(0),
             held_octets: AtomicU64::new(0),
         })
     }
 
-    /// The publisher holds so many values and octets now.
-    pub fn set_held(&self, values: u64, octets: u64) {
+    /// The publisher holds so many handles, values and octets now.
+    pub fn set_held(&self, handles: u64, values: u64, octets: u64) {
+        self.held_handles.store(handles, SeqCst);
         self.held_values.store(values, SeqCst);
         self.held_octets.store(octets, SeqCst);
     }
@@ -53,6 +56,7 @@ impl BoundStatus {
 /// A gauge of bounds: its name, its help, and its number of a bound.
 #[derive(Clone, Copy)]
 enum Gauge {
+    HeldHandles,
     HeldValues,
     MostValues,
     HeldOctets,
@@ -60,7 +64,8 @@ enum Gauge {
 }
 
 impl Gauge {
-    const ALL: [Gauge; 4] = [
+    const ALL: [Gauge; 5] = [
+        Gauge::HeldHandles,
         Gauge::HeldValues,
         Gauge::MostValues,
         Gauge::HeldOctets,
@@ -69,6 +74,7 @@ impl Gauge {
 
     fn name(self) -> &'static str {
         match self {
+            Gauge::HeldHandles => "handled_held_handles",
             Gauge::HeldValues => "handled_held_values",
             Gauge::MostValues => "handled_bound_values",
             Gauge::HeldOctets => "handled_held_octets",
@@ -78,7 +84,9 @@ impl Gauge {
 
     fn help(self) -> &'static str {
         match self {
-            Gauge::HeldValues => "Values that a publisher with a bound holds.",
+            Gauge::HeldHandles =>
+                "Handles that a publisher with a bound holds; they have no bound.",
+            Gauge::HeldValues => "Values that it holds.",
             Gauge::MostValues => "Values that it may hold.",
             Gauge::HeldOctets => "Octets that it holds, as a bound counts them.",
             Gauge::MostOctets => "Octets that it may hold.",
@@ -87,6 +95,7 @@ impl Gauge {
 
     fn number(self, status: &BoundStatus) -> u64 {
         match self {
+            Gauge::HeldHandles => status.held_handles.load(SeqCst),
             Gauge::HeldValues => status.held_values.load(SeqCst),
             Gauge::MostValues => status.most_values,
             Gauge::HeldOctets => status.held_octets.load(SeqCst),

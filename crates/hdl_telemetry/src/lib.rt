@@ -56,7 +56,7 @@ pub use file_watch::{FileChange, FileWatch};
 pub use health::Health;
 pub use log::{Log, LogSender};
 pub use log_file::LogFile;
-pub use log_status::LogStatus;
+pub use log_status::{LogKind, LogStatus};
 pub use notice::Notice;
 pub use process_metrics::ProcessMetrics;
 pub use recorder::{PacketRecorder, PublisherTelemetry, Recorder, StreamRecorder};

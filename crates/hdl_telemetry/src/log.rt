@@ -1,22 +1,19 @@
-//! The log of changes, whose lines a thread of its own writes.
+//! The log of changes and their history, whose lines a thread of their own writes.
 //!
 //! ```text
-//! the recorder of a lane -> LogSender ==a queue for each==> Log::write_lines -> standard error, or a file
+//! the recorder of a lane, the thread that serves -> LogSender ==a queue for each==> Log::write_lines -> standard error, or a file
 //! ```
 
-use crate::log_file::{LogFile, open_log};
-use crate::log_status::{Backlog, LogStatus};
+use crate::log_file::{LogFile, end_last_line, open_log};
+use crate::log_status::{Backlog, LogKind, LogStatus};
 use hdl_lanes::{Inlet, Outlet, lane};
 use std::alloc::{AllocError, Global};
 use std::fs::File;
-use std::io::{self, Write};
+use std::io::{self, ErrorKind, Write};
 use std::rt::Clock;
 use std::sync::Arc;
 use std::thread;
 use std::time::Duration;
-
-/// How many lines of a lane wait at most to be written.
-const LINES_MOST: usize = 1024;
 
 /// For how many milliseconds the thread sleeps that found no line.
 const PAUSE_MILLIS: u64 = 20;
@@ -74,6 +71,25 @@ impl Queue {
     }
 }
 
+/// Writes octets to the end of a file. If that fails, how many were written.
+fn write_octets(file: &mut File, octets: &[u8]) -> Result<(), usize> {
+    let mut rest = octets;
+    for _ in 0..octets.len() {
+        if rest.is_empty() {
+            break;
+        }
+        match file.write(rest) {
+            Ok(count) => rest = rest.get(count..).unwrap_or(&[]),
+            Err(e) if e.kind() == ErrorKind::Interrupted => {}
+            Err(_) => break,
+        }
+    }
+    if rest.is_empty() {
+        return Ok(());
+    }
+    Err(octets.len().saturating_sub(rest.len()))
+}
+
 /// What writes lines.
 #[derive(Drop)]
 struct LogWriter {
@@ -81,20 +97,58 @@ struct LogWriter {
     /// Where the file comes from once it was opened anew.
     files: Option<Outlet<File>>,
     status: Arc<LogStatus>,
-    /// Whether the last line couldn't be written.
+    /// Whether the last line couldn't be written, and whether the file ends with a part of one.
     is_failing: bool,
+    is_torn: bool,
+    /// Whether lines are brought onto the disk, and whether some aren't there yet.
+    syncs: bool,
+    is_unsynced: bool,
 }
 
 impl LogWriter {
-    /// Writes a line by one call.
+    /// Ends the line of which a part stands in the file, if there is one, so that the next line stands by itself.
+    fn end_torn_line(&mut self) {
+        if let Sink::File(file) = &mut self.sink {
+            if self.is_torn && write_octets(file, b"\n").is_ok() {
+                self.is_torn = false;
+            }
+        }
+    }
+
+    /// Writes a line by one call. Whether it was written.
+    fn put<R: Eprint>(&mut self, rt: &R, line: &str) -> bool {
+        match &mut self.sink {
+            Sink::Errors => eprint!(rt; "{line}").is_ok(),
+            Sink::File(file) => match write_octets(file, line.as_bytes()) {
+                Ok(()) => true,
+                Err(written) => {
+                    self.is_torn = written > 0;
+                    false
+                }
+            },
+        }
+    }
+
+    /// Writes a line, or counts it as lost.
     fn write<R: Eprint>(&mut self, rt: &R, line: &str) {
-        let written = match &mut self.sink {
-            Sink::Errors => eprint!(rt; "{line}"),
-            Sink::File(file) => file.write_all(line.as_bytes()),
-        };
-        self.is_failing = written.is_err();
+        self.end_torn_line();
+        self.is_failing = self.is_torn || !self.put(rt, line);
         if self.is_failing {
             self.status.fail();
+        }
+        self.is_unsynced = self.syncs;
+    }
+
+    /// For when no line waits: brings what was written onto the disk, if that is asked for.
+    fn sync(&mut self) {
+        if !self.is_unsynced {
+            return;
+        }
+        self.is_unsynced = false;
+        if let Sink::File(file) = &self.sink {
+            if file.sync_data().is_err() {
+                self.status.fail();
+            }
         }
     }
 
@@ -102,7 +156,9 @@ impl LogWriter {
     fn switch_file(&mut self) {
         if let Some(files) = &mut self.files {
             if let Some(file) = files.take() {
+                self.sync();
                 self.sink = Sink::File(file);
+                self.is_torn = false;
             }
         }
     }
@@ -118,33 +174,41 @@ impl LogWriter {
 /// Where the lines of changes go, and the queue of each sender.
 #[derive(Drop)]
 pub struct Log {
+    kind: LogKind,
     queues: Vec<Queue>,
     writer: LogWriter,
 }
 
 impl Log {
-    fn new(alloc: Global, sink: Sink) -> io::Result<Log> {
-        let status = Arc::new(alloc, LogStatus::new(alloc)?)?;
+    fn new(alloc: Global, kind: LogKind, sink: Sink) -> io::Result<Log> {
+        let status = Arc::new(alloc, LogStatus::new(alloc, kind)?)?;
         Ok(Log {
+            kind,
             queues: Vec::new(alloc),
             writer: LogWriter {
                 sink,
                 files: None,
                 status,
                 is_failing: false,
+                is_torn: false,
+                syncs: kind == LogKind::History,
+                is_unsynced: false,
             },
         })
     }
 
     /// A log that goes to standard error.
     pub fn to_errors(alloc: Global) -> io::Result<Log> {
-        Log::new(alloc, Sink::Errors)
+        Log::new(alloc, LogKind::Log, Sink::Errors)
     }
 
-    /// A log that appends to the file at a path, and what opens that anew. The file is made if it isn't there.
-    pub fn to_file(rt: &HostRuntime, path: &str) -> io::Result<(Log, LogFile)> {
+    /// A log that appends to the file at a path, and what opens that anew. The file is made if it isn't there. If a crash cut the last line of a history, a line end is put behind it.
+    pub fn to_file(rt: &HostRuntime, kind: LogKind, path: &str) -> io::Result<(Log, LogFile)> {
         let alloc = rt.alloc();
-        let mut log = Log::new(alloc, Sink::File(open_log(rt, path)?))?;
+        if kind == LogKind::History {
+            end_last_line(rt, path)?;
+        }
+        let mut log = Log::new(alloc, kind, Sink::File(open_log(rt, path)?))?;
         let (inlet, files) = lane(alloc, FILES_MOST)?;
         log.writer.files = Some(files);
         let file = LogFile {
@@ -163,8 +227,8 @@ impl Log {
 
     /// A sender for one more lane.
     pub fn sender(&mut self, alloc: Global) -> Result<LogSender, AllocError> {
-        let (inlet, lines) = lane(alloc, LINES_MOST)?;
-        let backlog = Arc::new(alloc, Backlog::new())?;
+        let (inlet, lines) = lane(alloc, self.kind.lines_most())?;
+        let backlog = Arc::new(alloc, Backlog::new(self.kind.octets_most()))?;
         let queue = Queue {
             lines,
             backlog: Arc::try_clone(&backlog)?,
@@ -197,6 +261,7 @@ impl Log {
             if self.write_round(rt) {
                 continue;
             }
+            self.writer.sync();
             self.writer.report_lost();
             if has_ended {
                 break;

@@ -2,13 +2,17 @@
 
 use crate::log_status::LogStatus;
 use hdl_lanes::Inlet;
+use std::alloc::AllocError;
 use std::fs::{self, File, OpenOptions};
-use std::io;
+use std::io::{self, Read, Seek, SeekFrom, Write};
 use std::os::unix::fs::{FileTypeExt, OpenOptionsExt};
 use std::sync::Arc;
 
 /// The program's own user alone reads a log: it tells who changes what.
 const MODE: u32 = 0o600;
+
+/// What ends a line.
+const LF: u8 = b'\n';
 
 /// Whether a FIFO is there.
 fn is_fifo(rt: &HostRuntime, path: &str) -> bool {
@@ -27,6 +31,28 @@ pub(crate) fn open_log(rt: &HostRuntime, path: &str) -> io::Result<File> {
     options.open(rt, path)
 }
 
+/// Whether the file ends within a line.
+fn ends_within_line(file: &mut File) -> io::Result<bool> {
+    if file.seek(SeekFrom::End(0))? == 0 {
+        return Ok(false);
+    }
+    file.seek(SeekFrom::End(-1))?;
+    let mut last = [LF];
+    file.read(&mut last)?;
+    Ok(last != [LF])
+}
+
+/// Puts a line end behind a line that a crash cut, so that the next one stands by itself.
+pub(crate) fn end_last_line(rt: &HostRuntime, path: &str) -> io::Result<()> {
+    let mut options = OpenOptions::new();
+    options.read(true).append(true).create(true).mode(MODE);
+    let mut file = options.open(rt, path)?;
+    if ends_within_line(&mut file)? {
+        file.write_all(&[LF])?;
+    }
+    Ok(())
+}
+
 /// What opens the file of a log anew. It's another thread than the one that writes lines.
 #[derive(Drop)]
 pub struct LogFile {
@@ -37,6 +63,11 @@ pub struct LogFile {
 }
 
 impl LogFile {
+    /// How the lines of the log go.
+    pub fn status(&self) -> Result<Arc<LogStatus>, AllocError> {
+        Ok(Arc::try_clone(&self.status)?)
+    }
+
     /// Opens the file anew, if that was asked for. If it can't be opened, lines go on into the one that is open, and that is said.
     pub fn reopen_if_requested(&mut self) {
         if !self.status.take_reopen_request() {

@@ -5,37 +5,88 @@ use std::alloc::{AllocError, Global};
 use std::sync::atomic::Ordering::SeqCst;
 use std::sync::atomic::{AtomicBool, AtomicU64};
 
-/// How many octets of a lane's lines wait at most to be written.
-const OCTETS_MOST: u64 = 131_072;
+/// What is said of a log on standard error: once lines begin to be lost, if the file can't be opened anew, and if a line can't be written.
+#[derive(Clone, Copy)]
+struct LogWarnings {
+    losing: &'static str,
+    reopen_failed: &'static str,
+    failing: &'static str,
+}
 
-/// What is said on standard error: once lines begin to be lost, and if the file can't be opened anew.
-const LOSING: &str =
-    "log: lines are lost: the log's reader or its disk is too slow. Changes are answered as before; how many lines were lost is said here once they are written again\n";
+const OF_LOG: LogWarnings = LogWarnings {
+    losing: "log: lines are lost: the log's reader or its disk is too slow. Changes are answered as before; how many lines were lost is said here once they are written again\n",
+    reopen_failed: "log: the file can't be opened anew, so lines go on into the one that is open: see that the program may write in its folder, and ask again\n",
+    failing: "log: a line can't be written: the disk may be full. Changes are answered as before; their lines are lost until there is room",
+};
 
-const REOPEN_FAILED: &str =
-    "log: the file can't be opened anew, so lines go on into the one that is open: see that the program may write in its folder, and ask again\n";
+const OF_HISTORY: LogWarnings = LogWarnings {
+    losing: "history: lines are lost: its disk is too slow. Changes are answered as before; how many lines were lost is said here once they are written again\n",
+    reopen_failed: "history: the file can't be opened anew, so lines go on into the one that is open: see that the program may write in its folder, and ask again\n",
+    failing: "history: a line can't be written: the disk may be full. Changes are answered as before; their lines are lost until there is room",
+};
 
-const FAILING: &str =
-    "log: a line can't be written: the disk may be full. Changes are answered as before; their lines are lost until there is room";
+/// What a log keeps.
+#[derive(Clone, Copy, Debug, PartialEq, Eq)]
+pub enum LogKind {
+    /// Who asked for each change, for whoever watches the server.
+    Log,
+    /// Each change with the values before, for whoever undoes one.
+    History,
+}
 
-/// How many octets of a lane's lines wait to be written. The lane's sender and the thread that writes share it.
+impl LogKind {
+    /// How many lines of a sender wait at most to be written.
+    pub(crate) fn lines_most(self) -> usize {
+        match self {
+            LogKind::Log => 1024,
+            LogKind::History => 65_536,
+        }
+    }
+
+    /// How many octets of a sender's lines wait at most to be written.
+    pub(crate) fn octets_most(self) -> u64 {
+        match self {
+            LogKind::Log => 131_072,
+            LogKind::History => 67_108_864,
+        }
+    }
+
+    /// How the lines about it begin.
+    fn name(self) -> &'static str {
+        match self {
+            LogKind::Log => "log",
+            LogKind::History => "history",
+        }
+    }
+
+    fn warnings(self) -> LogWarnings {
+        match self {
+            LogKind::Log => OF_LOG,
+            LogKind::History => OF_HISTORY,
+        }
+    }
+}
+
+/// How many octets of a sender's lines wait to be written. The sender and the thread that writes share it.
 #[derive(Drop)]
 pub(crate) struct Backlog {
     octets: AtomicU64,
+    most: u64,
 }
 
 impl Backlog {
-    /// A backlog of no octets.
-    pub(crate) fn new() -> Backlog {
+    /// A backlog of no octets, which may become so many.
+    pub(crate) fn new(most: u64) -> Backlog {
         Backlog {
             octets: AtomicU64::new(0),
+            most,
         }
     }
 
     /// Takes room for octets that are to wait too. False: there is no room for them.
     pub(crate) fn reserve(&self, octets: u64) -> bool {
         let before = self.octets.fetch_add(octets, SeqCst);
-        let has_room = before.saturating_add(octets) <= OCTETS_MOST;
+        let has_room = before.saturating_add(octets) <= self.most;
         if !has_room {
             self.release(octets);
         }
@@ -52,6 +103,7 @@ impl Backlog {
 /// one that tells and who opens the file share it.
 #[derive(Drop)]
 pub struct LogStatus {
+    kind: LogKind,
     lost: AtomicU64,
     /// How many lost lines may be reported, and how many were.
     to_report: AtomicU64,
@@ -68,13 +120,14 @@ pub struct LogStatus {
 
 impl LogStatus {
     /// The status of a log of which no line was lost.
-    pub(crate) fn new(alloc: Global) -> Result<LogStatus, AllocError> {
+    pub(crate) fn new(alloc: Global, kind: LogKind) -> Result<LogStatus, AllocError> {
         Ok(LogStatus {
+            kind,
             lost: AtomicU64::new(0),
             to_report: AtomicU64::new(0),
             reported: AtomicU64::new(0),
             is_losing: AtomicBool::new(false),
-            failing: Notice::new(alloc, FAILING)?,
+            failing: Notice::new(alloc, kind.warnings().failing)?,
             is_reopen_requested: AtomicBool::new(false),
             has_reopen_failed: AtomicBool::new(false),
             has_ended: AtomicBool::new(false),
@@ -128,15 +181,17 @@ impl LogStatus {
         if self.failing.is_due() {
             self.failing.print_if_due(rt);
         } else {
-            let _ = eprint!(rt; "{LOSING}");
+            let losing = self.kind.warnings().losing;
+            let _ = eprint!(rt; "{losing}");
         }
         self.is_losing.store(true, SeqCst);
     }
 
     /// Says how many lines were lost since the last report.
     fn print_lost<R: Eprint>(&self, rt: &R, more: u64) {
+        let name = self.kind.name();
         let _ = eprint!(rt;
-            "log: {more} lines were lost: the log's reader was too slow, or the disk was full. Their changes were answered as before\n"
+            "{name}: {more} lines were lost: its reader was too slow, or the disk was full. Their changes were answered as before\n"
         );
         self.reported.fetch_add(more, SeqCst);
         self.is_losing.store(false, SeqCst);
@@ -152,7 +207,8 @@ impl LogStatus {
             self.print_lost(rt, more);
         }
         if self.has_reopen_failed.swap(false, SeqCst) {
-            let _ = eprint!(rt; "{REOPEN_FAILED}");
+            let failed = self.kind.warnings().reopen_failed;
+            let _ = eprint!(rt; "{failed}");
         }
     }
 

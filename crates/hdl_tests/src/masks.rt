@@ -5,7 +5,7 @@ use crate::made::value;
 use crate::reach::put;
 use hdl_cache::{Masked, MaskedRows};
 use hdl_name::Name;
-use hdl_rows::{Fuse, PlainRows, Refused, Rows};
+use hdl_rows::{Fuse, PlainRows, Provenance, Refused, Rows};
 use hdl_value::{AdminMask, Reference, put_string, put_u32};
 use std::alloc::{AllocError, Global};
 use std::process::Abort;
@@ -52,7 +52,7 @@ fn key(alloc: Global, index: u32) -> Result<Reference, Fail> {
 fn create(rt: &impl Abort, alloc: Global, rows: &mut impl Rows, handle: &[u8]) -> Result<(), Fail> {
     let name = Name::read(alloc, handle)?;
     assert!(rt; !rows.exists(&name)?);
-    rows.create(&name, &[])?;
+    rows.create(&name, &[], &Provenance::opening())?;
     Ok(())
 }
 

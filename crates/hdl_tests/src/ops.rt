@@ -2,7 +2,7 @@ use crate::assertion::same;
 use hdl_limits::{Items, Octets};
 use hdl_name::Name;
 use hdl_ops::{Change, apply};
-use hdl_rows::{PlainRows, Rows};
+use hdl_rows::{Agent, PlainRows, Provenance, Rows};
 use hdl_value::{RawRefs, Reference, Value};
 use std::alloc::{AllocError, Global};
 use std::test::Fail;
@@ -20,6 +20,12 @@ fn value(alloc: Global) -> Result<Value, AllocError> {
     })
 }
 
+/// The provenance of a change that anyone may make, at a moment.
+fn anyone(moment: u64) -> Provenance<'static> {
+    let agent = Agent::Anyone;
+    Provenance { moment, agent }
+}
+
 /// A value that is written has the moment of its event.
 #[test]
 fn create_is_stamped(rt: HostRuntime) -> Result<(), Fail> {
@@ -27,7 +33,7 @@ fn create_is_stamped(rt: HostRuntime) -> Result<(), Fail> {
     let name = Name::read(rt.alloc(), b"10/b")?;
     assert!(rt; !rows.exists(&name)?);
     let values = Items::new(Vec::from_array(rt.alloc(), [value(rt.alloc())?])?);
-    apply(&mut rows, Change::Create { name, values }, 1000)?;
+    apply(&mut rows, Change::Create { name, values }, &anyone(1000))?;
     let name = Name::read(rt.alloc(), b"10/b")?;
     let found = rows.at(&Reference { name, index: 2 })?;
     same(&rt, "stamp", found.map(|value| value.timestamp), Some(1000));
@@ -39,9 +45,9 @@ fn delete_takes_the_handle(rt: HostRuntime) -> Result<(), Fail> {
     let mut rows = PlainRows::new(rt.alloc());
     let name = Name::read(rt.alloc(), b"10/b")?;
     assert!(rt; !rows.exists(&name)?);
-    rows.create(&name, &[])?;
+    rows.create(&name, &[], &Provenance::opening())?;
     assert!(rt; rows.exists(&name)?);
-    apply(&mut rows, Change::Delete { name }, 1000)?;
+    apply(&mut rows, Change::Delete { name }, &anyone(1000))?;
     let name = Name::read(rt.alloc(), b"10/b")?;
     assert!(rt; !rows.exists(&name)?);
     Ok(())

@@ -6,7 +6,7 @@ use crate::assertion::same;
 use crate::made::value;
 use hdl_name::Name;
 use hdl_reach::mask;
-use hdl_rows::{Fuse, PlainRows, Refused, Rows};
+use hdl_rows::{Fuse, PlainRows, Provenance, Refused, Rows};
 use hdl_value::{AdminMask, Reference, Value, put_string, put_u32};
 use std::alloc::{AllocError, Global};
 use std::process::Abort;
@@ -43,11 +43,11 @@ pub(crate) fn put(
 ) -> Result<(), Fail> {
     let place = reference(alloc, handle, value.index)?;
     if !rows.exists(&place.name)? {
-        rows.create(&place.name, &[value])?;
+        rows.create(&place.name, &[value], &Provenance::opening())?;
         return Ok(());
     }
     assert!(rt; rows.at(&place)?.is_none());
-    rows.add(&place.name, &[value])?;
+    rows.add(&place.name, &[value], &Provenance::opening())?;
     Ok(())
 }
 

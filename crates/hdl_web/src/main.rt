@@ -13,6 +13,7 @@
 
 mod accepted;
 mod change_requests;
+mod changes;
 mod event_loop;
 mod lifetime;
 mod log;
@@ -34,8 +35,10 @@ mod worker;
 mod workers;
 mod write_timeout;
 
+use changes::ChangeHistory;
 use event_loop::listen_at;
 use hdl_copied_handles::{CopiedHandles, read_copy};
+use hdl_languages::Language;
 use hdl_programs::ExitStatus;
 use hdl_proxy::{Site, is_site_address};
 use hdl_routes::{Route, read_route};
@@ -138,6 +141,22 @@ fn copied(rt: &HostRuntime, words: &ProxyOptions) -> Result<Option<CopiedHandles
     }
 }
 
+/// The history that the words name, if they name one. A fault is reported, and then there is none.
+fn history(rt: &HostRuntime, words: &ProxyOptions) -> Result<Option<ChangeHistory>, ExitCode> {
+    let Some(path) = &words.history else {
+        return Ok(None);
+    };
+    match ChangeHistory::open(rt, path.as_str()) {
+        Ok(history) => Ok(Some(history)),
+        Err(fault) => {
+            let _ = eprintln!(rt;
+                "hdl: --history {path}: {fault}: name the file of handled serve --history, which the proxy's user may read"
+            );
+            Err(ExitCode::from(ExitStatus::Failure))
+        }
+    }
+}
+
 /// The same handles for another one who carries out orders.
 fn shared_copy(
     copied: &Option<Arc<CopiedHandles>>,
@@ -173,6 +192,7 @@ fn start_workers(
     words: &ProxyOptions,
     routes: Vec<Route>,
     copied: Option<CopiedHandles>,
+    history: Option<ChangeHistory>,
 ) -> io::Result<ProxyWorkers<Server, ChangeExecutor>> {
     let copied = match copied {
         Some(copied) => Some(Arc::new(rt.alloc(), copied)?),
@@ -192,7 +212,9 @@ fn start_workers(
         routes,
         limit: words.timeout.saturating_mul(1000),
         writes: words.writes,
+        language: language(words),
         copied,
+        history,
         keeps: words.cache.saturating_mul(1000),
     };
     Ok(ProxyWorkers {
@@ -207,6 +229,25 @@ fn site(rt: &HostRuntime, words: &ProxyOptions) -> Result<Site, AllocError> {
     let address = words.address.as_ref().map(|address| address.as_str());
     let redirects = u32::try_from(words.redirects).unwrap_or(0);
     Site::new(rt.alloc(), &words.site, contact, address, redirects)
+}
+
+/// The language of all pages, if the words name one.
+fn language(words: &ProxyOptions) -> Option<Language> {
+    match &words.language {
+        Some(word) => Language::called(word.as_str()),
+        None => None,
+    }
+}
+
+/// Whether the language that the words name, if they name one, is one of pages. If it isn't, that is reported.
+fn is_language_fit(rt: &HostRuntime, words: &ProxyOptions) -> bool {
+    match &words.language {
+        Some(word) if Language::called(word.as_str()).is_none() => {
+            let _ = eprintln!(rt; "error: --lang {word}: write en or de, or leave it out");
+            false
+        }
+        _ => true,
+    }
 }
 
 /// Whether the name of the site says something. If it doesn't, that is reported.
@@ -249,6 +290,7 @@ fn is_contact_fit(rt: &HostRuntime, words: &ProxyOptions) -> bool {
 /// Whether all that the words name has its form. What hasn't is reported.
 fn are_words_fit(rt: &HostRuntime, words: &ProxyOptions) -> bool {
     is_site_fit(rt, words)
+        && is_language_fit(rt, words)
         && is_address_fit(rt, words)
         && is_contact_fit(rt, words)
         && are_addresses_fit(rt, words)
@@ -344,6 +386,10 @@ fn main(rt: HostRuntime) -> ExitCode {
         Ok(copied) => copied,
         Err(status) => return status,
     };
+    let history = match history(&rt, &words) {
+        Ok(history) => history,
+        Err(status) => return status,
+    };
     let log = match lines_to(&rt, &words) {
         Ok(log) => log,
         Err(status) => return status,
@@ -351,7 +397,7 @@ fn main(rt: HostRuntime) -> ExitCode {
     let Some(listening) = listening(&rt, &words) else {
         return ExitCode::from(ExitStatus::Failure);
     };
-    let served = match start_workers(&rt, &words, routes, copied) {
+    let served = match start_workers(&rt, &words, routes, copied, history) {
         Ok(workers_of_all) => serve_http(&rt, listening, workers_of_all, log, &mut rt.stdout()),
         Err(fault) => Err(fault),
     };

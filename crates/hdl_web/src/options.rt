@@ -46,6 +46,8 @@ pub struct ProxyOptions {
     pub contact: Option<String>,
     /// The address at which its handles are cited.
     pub address: Option<String>,
+    /// The language of all pages, `en` or `de`; if there is none, each request chooses.
+    pub language: Option<String>,
     /// For how many seconds browsers keep a redirect at most: up to a day.
     pub redirects: u64,
     /// For how many seconds an answer is kept at most; 0 keeps none.
@@ -56,6 +58,8 @@ pub struct ProxyOptions {
     pub writes: bool,
     /// A copy of the table, of which lists are made: a file's path.
     pub lists: Option<String>,
+    /// The history of a server, whose last changes forms show: a file's path.
+    pub history: Option<String>,
 }
 
 /// What the command line asks for.
@@ -151,6 +155,12 @@ fn site_args<'a>(alloc: Global, command: Command<'a>) -> Result<Command<'a>, All
             "address",
             "URL",
             "The site's own address, such as https://handles.example.org/, for links by which pages are cited",
+        ))?
+        .arg(option(
+            alloc,
+            "lang",
+            "LANGUAGE",
+            "The language of all pages, en or de; by default each browser's own, by Accept-Language",
         ))
 }
 
@@ -196,6 +206,13 @@ fn writing_args<'a>(alloc: Global, command: Command<'a>) -> Result<Command<'a>, 
             "FILE",
             "With --writes: a copy of the table (handled copy), for lists in browsers and long lists",
         )
+        .requires_arg("writes")?)?
+        .arg(option(
+            alloc,
+            "history",
+            "FILE",
+            "With --writes: the history of the server (handled serve --history), of which forms show the last changes",
+        )
         .requires_arg("writes")?)
 }
 
@@ -239,6 +256,7 @@ fn proxy_options(alloc: Global, found: &ArgMatches<'_>) -> Result<ProxyOptions, 
         site: String::from_str(alloc, found.get_str("site").unwrap_or(DEFAULT_SITE))?,
         contact: text(alloc, found.get_str("contact"))?,
         address: text(alloc, found.get_str("address"))?,
+        language: text(alloc, found.get_str("lang"))?,
         redirects: found
             .get_one::<u64>("browser-cache")
             .unwrap_or(DEFAULT_REDIRECT_SECONDS),
@@ -246,6 +264,7 @@ fn proxy_options(alloc: Global, found: &ArgMatches<'_>) -> Result<ProxyOptions, 
         log: text(alloc, found.get_str("log"))?,
         writes: found.get_flag("writes"),
         lists: text(alloc, found.get_str("lists"))?,
+        history: text(alloc, found.get_str("history"))?,
     })
 }
 

@@ -1,7 +1,8 @@
 //! A question on its way from server to server.
 
 use futures::channel::oneshot;
-use hdl_forms::edit_page;
+use hdl_forms::{edit_page, with_history};
+use hdl_history::Entry;
 use hdl_proxy::{Answer, Next, NoAnswer, Question, next_step};
 use hdl_routes::{Failure, worst};
 use std::alloc::{AllocError, Global};
@@ -9,6 +10,13 @@ use std::vec::IntoIter;
 
 /// An answer, or that there was no memory for it.
 pub(crate) type AnswerResult = Result<Answer, AllocError>;
+
+/// What a form is made of besides the reply: its token, and the last changes of the handle, newest first.
+#[derive(Drop)]
+pub(crate) struct PendingForm {
+    pub(crate) token: Vec<u8>,
+    pub(crate) changes: Vec<Entry>,
+}
 
 /// A question, which servers are still to be asked, what those came to that were, and where the answer goes.
 #[derive(Drop)]
@@ -20,8 +28,8 @@ pub(crate) struct PendingQuestion {
     pub(crate) failure: Failure,
     /// Since when it waits for the server that is next.
     pub(crate) since: u64,
-    /// The token of the form that is made of the reply, where one is.
-    pub(crate) token: Option<Vec<u8>>,
+    /// The form that is made of the reply, where one is.
+    pub(crate) form: Option<PendingForm>,
     pub(crate) answer: oneshot::Sender<AnswerResult>,
 }
 
@@ -29,12 +37,15 @@ pub(crate) struct PendingQuestion {
 fn next_or_form(
     alloc: Global,
     question: Question,
-    token: Option<Vec<u8>>,
+    form: Option<PendingForm>,
     answered: Result<&[u8], NoAnswer>,
     chance: u64,
 ) -> Result<Next, AllocError> {
-    match token {
-        Some(token) => Ok(Next::Answer(edit_page(alloc, &question, answered, &token)?)),
+    match form {
+        Some(form) => {
+            let page = edit_page(alloc, &question, answered, &form.token)?;
+            Ok(Next::Answer(with_history(alloc, page, &form.changes)?))
+        }
         None => next_step(alloc, question, answered, chance),
     }
 }
@@ -72,7 +83,7 @@ impl PendingQuestion {
         reply: &[u8],
         chance: u64,
     ) -> (Result<Next, AllocError>, oneshot::Sender<AnswerResult>) {
-        let next = next_or_form(self.alloc, self.question, self.token, Ok(reply), chance);
+        let next = next_or_form(self.alloc, self.question, self.form, Ok(reply), chance);
         (next, self.answer)
     }
 
@@ -84,7 +95,7 @@ impl PendingQuestion {
     /// Answers with what all servers came to.
     pub(crate) fn end(self) {
         let failure = no_answer(self.failure);
-        let next = next_or_form(self.alloc, self.question, self.token, Err(failure), 0);
+        let next = next_or_form(self.alloc, self.question, self.form, Err(failure), 0);
         let _ = self.answer.send(last_answer(next));
     }
 }

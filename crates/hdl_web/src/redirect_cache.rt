@@ -83,7 +83,7 @@ fn redirect_of(
     Some(CachedRedirect {
         message,
         reply,
-        headers: headers_of(alloc, answer, false).ok()?,
+        headers: headers_of(alloc, answer, false, false).ok()?,
         body: Bytes::copy_from_slice(alloc, &answer.body).ok()?,
     })
 }

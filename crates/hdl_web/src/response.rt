@@ -11,7 +11,7 @@ use http::StatusCode;
 use http::header::{
     ACCESS_CONTROL_ALLOW_HEADERS, ACCESS_CONTROL_ALLOW_METHODS, ACCESS_CONTROL_ALLOW_ORIGIN,
     ACCESS_CONTROL_MAX_AGE, ALLOW, CACHE_CONTROL, CONTENT_SECURITY_POLICY, CONTENT_TYPE, ETAG,
-    HeaderMap, HeaderName, HeaderValue, LINK, LOCATION, REFERRER_POLICY, RETRY_AFTER,
+    HeaderMap, HeaderName, HeaderValue, LINK, LOCATION, REFERRER_POLICY, RETRY_AFTER, VARY,
     WWW_AUTHENTICATE, X_CONTENT_TYPE_OPTIONS,
 };
 use http::response::{Parts, Response};
@@ -183,13 +183,21 @@ fn put_cache_control(
     }
 }
 
-/// The fields of an answer's response. `changes` says whether handles are changed here.
+/// The fields of an answer's response. `changes` says whether handles are changed here, `varies` whether requests choose the language of pages.
 pub(crate) fn headers_of(
     alloc: Global,
     answer: &Answer,
     changes: bool,
+    varies: bool,
 ) -> Result<HeaderMap<HeaderValue>, AllocError> {
     let mut headers = HeaderMap::new(alloc);
+    if varies && answer.media == Media::Page {
+        put(
+            &mut headers,
+            VARY,
+            HeaderValue::from_static("Accept-Language"),
+        )?;
+    }
     let policy = policy_of(answer.cache_control, changes);
     put_media(&mut headers, answer.media, policy)?;
     put_status(alloc, &mut headers, answer, changes)?;
@@ -207,11 +215,13 @@ pub(crate) fn headers_of(
     Ok(headers)
 }
 
-/// The response of an answer: its status, its headers and its body. `changes` says whether handles are changed here.
+/// The response of an answer: its status, its headers and its body. `changes` says whether handles are changed here, `varies` whether requests choose
+/// the language of pages.
 pub fn response_of(
     alloc: Global,
     answer: &Answer,
     changes: bool,
+    varies: bool,
 ) -> Result<Response<Full<Bytes>>, AllocError>
     ensures status { IfOk result (λ response. (head_of response).status ≡ status_number answer.now.status) }
 {
@@ -220,7 +230,7 @@ pub fn response_of(
     };
     let mut head = Parts::new(alloc);
     head.status = status;
-    head.headers = headers_of(alloc, answer, changes)?;
+    head.headers = headers_of(alloc, answer, changes, varies)?;
     let body = Bytes::copy_from_slice(alloc, &answer.body)?;
     Ok(Response::from_parts(head, Full::new(body)))
 }

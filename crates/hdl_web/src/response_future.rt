@@ -13,6 +13,7 @@ use bytes::Bytes;
 use futures::task::{Context, Poll};
 use futures::{Future, ready};
 use hdl_forms::{FormLink, with_form_link};
+use hdl_languages::Language;
 use hdl_proxy::{Answer, Site, with_tag};
 use http_body_util::Full;
 use hyper::Response;
@@ -20,10 +21,29 @@ use std::alloc::{AllocError, Global};
 use std::sync::{Arc, Wait};
 use std::time::Clock;
 
+/// The language of a page, and whether the request chose it.
+#[derive(Clone, Copy)]
+pub(crate) struct LanguageChoice {
+    pub(crate) language: Language,
+    pub(crate) by_request: bool,
+}
+
+impl LanguageChoice {
+    /// A language that no request chooses.
+    pub(crate) fn fixed(language: Language) -> LanguageChoice {
+        LanguageChoice {
+            language,
+            by_request: false,
+        }
+    }
+}
+
 /// What a response needs besides its answer.
 #[derive(Drop)]
 pub(crate) struct ResponseContext {
     pub(crate) site: Arc<Site>,
+    /// The language of a page.
+    pub(crate) choice: LanguageChoice,
     /// The field `If-None-Match` of the request: the tags of what the client has.
     pub(crate) known: Option<String>,
     /// Whether handles are changed here.
@@ -36,7 +56,7 @@ impl ResponseContext {
     /// An answer as the client gets it: a page as the site gives it, or that the client has it already.
     fn answer(&self, alloc: Global, answer: Answer) -> Result<Answer, AllocError> {
         let answer = if self.changes {
-            with_form_link(alloc, self.form_link, answer)?
+            with_form_link(alloc, self.choice.language, self.form_link, answer)?
         } else {
             answer
         };
@@ -44,7 +64,9 @@ impl ResponseContext {
             Some(field) => Some(field.as_str()),
             None => None,
         };
-        let answer = self.site.dress(alloc, self.site.bound(answer))?;
+        let answer = self
+            .site
+            .dress(alloc, self.choice.language, self.site.bound(answer))?;
         with_tag(alloc, answer, known)
     }
 }
@@ -143,7 +165,7 @@ fn response<R: Wait + Clock>(
     if let Some(entry) = &mut request_context.entry {
         entry.end(&answer);
     }
-    response_of(alloc, &answer, seen.changes)
+    response_of(alloc, &answer, seen.changes, seen.choice.by_request)
 }
 
 /// The response of a text of the proxy's own, with which the visit is over.

@@ -5,7 +5,7 @@ use crate::change_requests::{
 };
 use crate::log::PendingEntry;
 use crate::redirect_cache::CachedRedirect;
-use crate::response_future::{RequestContext, ResponseContext, ResponseFuture};
+use crate::response_future::{LanguageChoice, RequestContext, ResponseContext, ResponseFuture};
 use crate::shared::Shared;
 use crate::text::{ProxyText, TextKind};
 use bytes::Bytes;
@@ -13,9 +13,10 @@ use hdl_forms::{
     FormLink, FormPlace, LIST_ADDRESS, ListRequest, Sender, form_at, form_question, list_at,
     list_form, new_page, refuse_cross_origin,
 };
+use hdl_languages::{Language, preferred_language};
 use hdl_proxy::{Next, begin};
 use hdl_rest::{ParsedRequest, SentRequest, begin_with_key};
-use http::header::{AUTHORIZATION, AsHeaderName, HOST, IF_NONE_MATCH, ORIGIN};
+use http::header::{ACCEPT_LANGUAGE, AUTHORIZATION, AsHeaderName, HOST, IF_NONE_MATCH, ORIGIN};
 use http_body_util::combinators::Collect;
 use http_body_util::{BodyExt, Full, Limited};
 use hyper::body::Incoming;
@@ -120,22 +121,44 @@ impl<R: Wait + Clock + Copy + Drop> ProxyService<R> {
         Some(PendingEntry::new(shared, req.method().as_str(), req.uri().path()))
     }
 
+    /// The language of the pages that answer a request: that of all pages, or the one that it prefers. Forms and lists are in English.
+    fn language_of<B>(&self, req: &Request<B>) -> Result<LanguageChoice, AllocError> {
+        let sent = first_line(req);
+        if self.form_of(sent)?.is_some() || self.list_of(sent)?.is_some() {
+            return Ok(LanguageChoice::fixed(Language::English));
+        }
+        match self.shared.language {
+            Some(language) => Ok(LanguageChoice::fixed(language)),
+            None => Ok(LanguageChoice {
+                language: preferred_language(self.alloc, field(req, ACCEPT_LANGUAGE))?,
+                by_request: true,
+            }),
+        }
+    }
+
     /// What becomes of a request that comes without a key.
-    fn take(&self, sent: SentRequest<'_>) -> Result<Progress, AllocError> {
+    fn take(&self, language: Language, sent: SentRequest<'_>) -> Result<Progress, AllocError> {
         let own = self.shared.site.address();
-        match begin(self.alloc, own, sent.method, sent.path, sent.query)? {
+        match begin(
+            self.alloc,
+            own,
+            language,
+            sent.method,
+            sent.path,
+            sent.query,
+        )? {
             Next::Answer(answer) => Ok(Progress::Answered(Ok(answer))),
             Next::Ask(question) => self.shared.take(question, plain_path(sent)),
         }
     }
 
-    fn begin(&self, sent: SentRequest<'_>) -> Result<Start<R>, AllocError> {
+    fn begin(&self, language: Language, sent: SentRequest<'_>) -> Result<Start<R>, AllocError> {
         if !self.shared.writes {
-            return Ok(Start::Progress(self.take(sent)?));
+            return Ok(Start::Progress(self.take(language, sent)?));
         }
         match begin_with_key(self.alloc, sent)? {
             ParsedRequest::Answer(answer) => Ok(Start::Progress(Progress::Answered(Ok(answer)))),
-            ParsedRequest::Other => Ok(Start::Progress(self.take(sent)?)),
+            ParsedRequest::Other => Ok(Start::Progress(self.take(language, sent)?)),
             ParsedRequest::Order(order) if order.takes_body() => {
                 Ok(Start::Body(Purpose::Order(order), self.change_queue()?))
             }
@@ -173,7 +196,7 @@ impl<R: Wait + Clock + Copy + Drop> ProxyService<R> {
         match req.method().as_str() {
             "GET" | "HEAD" => Ok(Start::Progress(self.show_form(place)?)),
             "POST" => self.take_from_page(req, place.address(), Purpose::Form(place)),
-            _ => self.begin(sent_by(req)),
+            _ => self.begin(Language::English, sent_by(req)),
         }
     }
 
@@ -188,7 +211,7 @@ impl<R: Wait + Clock + Copy + Drop> ProxyService<R> {
                 self.alloc, &request,
             )))),
             "POST" => self.take_from_page(req, LIST_ADDRESS, Purpose::List),
-            _ => self.begin(sent_by(req)),
+            _ => self.begin(Language::English, sent_by(req)),
         }
     }
 
@@ -226,7 +249,11 @@ impl<R: Wait + Clock + Copy + Drop> ProxyService<R> {
 
     /// What the response needs of a request. A field that is no text names no tag of ours, nor does one for which there is no memory: then
     /// the whole answer is sent.
-    fn read_fields<B>(&self, req: &Request<B>) -> Result<ResponseContext, AllocError> {
+    fn read_fields<B>(
+        &self,
+        req: &Request<B>,
+        choice: LanguageChoice,
+    ) -> Result<ResponseContext, AllocError> {
         let known = match req.headers().get(IF_NONE_MATCH) {
             Some(value) => match value.to_str() {
                 Ok(text) => String::from_str(self.alloc, text).ok(),
@@ -236,6 +263,7 @@ impl<R: Wait + Clock + Copy + Drop> ProxyService<R> {
         };
         Ok(ResponseContext {
             site: Arc::try_clone(&self.shared.site)?,
+            choice,
             known,
             changes: self.shared.writes,
             form_link: form_link_at(req.uri().path(), self.shared.copied.is_some()),
@@ -270,7 +298,7 @@ impl<R: Wait + Clock + Copy + Drop> ProxyService<R> {
     }
 
     /// What a request is, by its head.
-    fn start<B>(&self, req: &Request<B>) -> Result<Start<R>, AllocError> {
+    fn start<B>(&self, req: &Request<B>, language: Language) -> Result<Start<R>, AllocError> {
         let sent = sent_by(req);
         if let Some(text) = self.proxy_text(sent)? {
             return Ok(Start::Progress(Progress::Text(text)));
@@ -280,7 +308,7 @@ impl<R: Wait + Clock + Copy + Drop> ProxyService<R> {
         }
         match self.form_of(sent)? {
             Some(place) => self.start_form(req, place),
-            None => self.begin(sent),
+            None => self.begin(language, sent),
         }
     }
 }
@@ -305,9 +333,13 @@ impl<R: Wait + Clock + Copy + Drop, I: Drop> Service<Request<Incoming<I>>> for P
                 Progress::Redirected(redirect),
             );
         }
-        let seen = self.read_fields(&req).ok();
+        // Without memory to read what it prefers, a request is answered in English, if at all.
+        let choice = self
+            .language_of(&req)
+            .unwrap_or(LanguageChoice::fixed(Language::English));
+        let seen = self.read_fields(&req, choice).ok();
         let request_context = RequestContext { entry, seen };
-        let (purpose, change_queue) = match self.start(&req) {
+        let (purpose, change_queue) = match self.start(&req, choice.language) {
             Ok(Start::Body(purpose, change_queue)) => (purpose, change_queue),
             Ok(Start::Progress(turn)) => return ResponseFuture::next(
                 self.alloc,

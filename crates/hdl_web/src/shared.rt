@@ -1,11 +1,12 @@
 //! What all share: the servers, who waits for each, and how each stands.
 
 use crate::change_requests::Progress;
+use crate::changes::ChangeHistory;
 use crate::lifetime::lifetime;
 use crate::log::AccessLogEntry;
 use crate::metrics::Counts;
 use crate::owners::PrefixOwners;
-use crate::pending_question::{AnswerResult, PendingQuestion};
+use crate::pending_question::{AnswerResult, PendingForm, PendingQuestion};
 use crate::redirect_cache::{AnswerCache, CachedRedirect};
 use crate::servers::Resolver;
 use crate::standbys::Standbys;
@@ -15,6 +16,8 @@ use futures::channel::oneshot;
 use hdl_client::{ClientFault, Reply};
 use hdl_copied_handles::{CopiedHandles, ListedHandle};
 use hdl_forms::TokenKey;
+use hdl_history::Entry;
+use hdl_languages::Language;
 use hdl_msg::ResponseCode;
 use hdl_name::Name;
 use hdl_proxy::{Answer, HOPS_MOST, Next, NoAnswer, Question, Site, finish, next_step};
@@ -67,6 +70,8 @@ pub struct Shared<R> {
     pub(crate) alloc: Global,
     /// The site of all pages.
     pub(crate) site: Arc<Site>,
+    /// The language of all pages; if there is none, each request chooses.
+    pub(crate) language: Option<Language>,
     pub(crate) routes: Vec<Route>,
     pub(crate) upstreams: Vec<Upstream>,
     pub(crate) owners: Mutex<PrefixOwners>,
@@ -77,6 +82,8 @@ pub struct Shared<R> {
     pub(crate) writes: bool,
     /// The handles of a copy of the table, of which lists are made, if there is one.
     pub(crate) copied: Option<Arc<CopiedHandles>>,
+    /// The history whose last changes forms show, if there is one.
+    pub(crate) history: Option<ChangeHistory>,
     /// With what the tokens of forms are made.
     pub(crate) tokens: TokenKey,
     /// What is kept, and replies for how many milliseconds at most, where any are.
@@ -273,8 +280,23 @@ impl<R: Wait + Clock> Shared<R> {
         };
         let turn = self.turn(question.name.prefix())?.into_iter();
         let (answer, from) = oneshot::channel(self.alloc)?;
-        self.send(question, message, turn, Some(token), answer);
+        let changes = self.last_changes(&question.name);
+        self.send(
+            question,
+            message,
+            turn,
+            Some(PendingForm { token, changes }),
+            answer,
+        );
         Ok(Progress::Awaited(from))
+    }
+
+    /// The last changes of a handle, newest first, if there is a history.
+    fn last_changes(&self, name: &Name) -> Vec<Entry> {
+        match &self.history {
+            Some(history) => history.last(self.alloc, name),
+            None => Vec::new(self.alloc),
+        }
     }
 
     /// Sends a question on its way to these servers.
@@ -283,7 +305,7 @@ impl<R: Wait + Clock> Shared<R> {
         question: Question,
         message: Vec<u8>,
         turn: IntoIter<usize>,
-        token: Option<Vec<u8>>,
+        form: Option<PendingForm>,
         answer: oneshot::Sender<AnswerResult>,
     ) {
         self.forward(PendingQuestion {
@@ -293,7 +315,7 @@ impl<R: Wait + Clock> Shared<R> {
             turn,
             failure: Failure::Elsewhere,
             since: 0,
-            token,
+            form,
             answer,
         });
     }

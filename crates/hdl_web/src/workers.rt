@@ -1,5 +1,6 @@
 //! Who asks each server.
 
+use crate::changes::ChangeHistory;
 use crate::log::AccessLogEntry;
 use crate::metrics::Counts;
 use crate::owners::PrefixOwners;
@@ -12,6 +13,7 @@ use crate::worker::{ChangeJob, run_change_worker, run_upstream_worker};
 use crossbeam_channel::{Receiver, Sender, unbounded};
 use hdl_copied_handles::CopiedHandles;
 use hdl_forms::TokenKey;
+use hdl_languages::Language;
 use hdl_proxy::Site;
 use hdl_routes::{Route, ServerHealth};
 use std::alloc::{AllocGlobal, Global};
@@ -37,8 +39,12 @@ pub struct Config {
     pub routes: Vec<Route>,
     pub limit: u64,
     pub writes: bool,
+    /// The language of all pages; if there is none, each request chooses.
+    pub language: Option<Language>,
     /// The handles of a copy of the table, of which lists are made, if there is one.
     pub copied: Option<Arc<CopiedHandles>>,
+    /// The history whose last changes forms show, if there is one.
+    pub history: Option<ChangeHistory>,
     /// For how many milliseconds replies are kept at most; 0 keeps none.
     pub keeps: u64,
 }
@@ -178,7 +184,9 @@ where
         began: Instant::now(rt)?,
         limit: config.limit,
         writes: config.writes,
+        language: config.language,
         copied: config.copied,
+        history: config.history,
         tokens: token_key(rt)?,
         cache: cache(rt, config.keeps)?,
         keeps: config.keeps,

@@ -1,6 +1,5 @@
 //! An import, asked of a server.
 
-use crate::advice::{UNSAYABLE, is_unsayable};
 use crate::batches::shows_progress;
 use crate::exit_status::ExitStatus;
 use crate::fault::ArgumentFault;
@@ -9,11 +8,12 @@ use crate::imports::counts::{Counts, Refusal};
 use crate::imports::creating::{Creations, create_all};
 use crate::imports::progress::Progress;
 use crate::imports::row::DAY_SECONDS;
-use crate::imports::rows::{HandleRows, Part, RowFormat};
+use crate::imports::rows::{Faults, HandleRows, Part, RowFormat};
 use crate::imports::update::KeptFields;
 use crate::imports::updating::{UpdateMode, preview_part, update_part};
 use crate::key::{key_of, read_key_reference};
 use crate::reporting::report_fault;
+use crate::warnings::{Warning, end_counts, is_unsayable};
 use hdl_client::{Batch, ClientFault, Key, Session, Task, Transport, connect};
 use hdl_value::Wire;
 use hdl_value_lines::number_in;
@@ -51,6 +51,8 @@ enum ImportFault {
     File(io::Error),
     #[error("line 1: {0}")]
     Header(ArgumentFault),
+    #[error("nothing was sent: put the rows of each handle together, as by sorting the file by the column handle")]
+    Apart,
     #[error("{0}")]
     Words(ArgumentFault),
     #[error("{0}")]
@@ -59,16 +61,17 @@ enum ImportFault {
     Key,
     #[error("the server takes no changes (--read-only): name the one that does by --server; later rows were not tried")]
     ReadOnly,
-    #[error("the server takes no changes now: its /health says why; later rows were not tried")]
+    #[error("the server takes no changes now, or the space of this prefix there is full: ask its operator; later rows were not tried")]
     Busy,
 }
 
 impl ImportFault {
     fn status(&self) -> ExitStatus {
         match self {
-            ImportFault::File(_) | ImportFault::Header(_) | ImportFault::Words(_) => {
-                ExitStatus::Arguments
-            }
+            ImportFault::File(_)
+            | ImportFault::Header(_)
+            | ImportFault::Apart
+            | ImportFault::Words(_) => ExitStatus::Arguments,
             ImportFault::Client(_) => ExitStatus::NoAnswer,
             ImportFault::Key | ImportFault::ReadOnly | ImportFault::Busy => ExitStatus::Failure,
         }
@@ -97,27 +100,45 @@ impl From<AllocError> for ImportFault {
     }
 }
 
-/// Says which handles of a part have a space in the name.
-fn report_spaces(rt: &HostRuntime, part: &Part) {
+/// Warns of the handles of a part that no export takes along.
+fn warn_of_names(part: &Part, faults: &mut Creations<'_>) {
     for task in &part.tasks {
-        if is_unsayable(task.request.handle()) {
-            let _ = println!(rt; "line {}: {}: {UNSAYABLE}", task.line, task.title);
+        let handle = task.request.handle();
+        if is_unsayable(handle) {
+            faults.note_warning(task.line, handle, Warning::Name);
         }
     }
 }
 
-/// The next part of the file; its faults are told and counted, and which handles no tenants text can say.
-fn next_part(rt: &HostRuntime, rows: &mut HandleRows<'_>, counts: &mut Counts) -> Part {
-    let mut faults = Creations {
+/// What is told faults and warnings, with what was counted so far.
+fn told_faults<'r>(rt: &'r HostRuntime, counts: &Counts) -> Creations<'r> {
+    Creations {
         rt,
         counts: *counts,
         found: Vec::new(rt.alloc()),
-    };
+    }
+}
+
+/// The next part of the file; its faults and warnings are told and counted.
+fn next_part(rt: &HostRuntime, rows: &mut HandleRows<'_>, counts: &mut Counts) -> Part {
+    let mut faults = told_faults(rt, counts);
     let mut part = Part::new(rt.alloc());
     rows.fill(&mut part, &mut faults);
+    warn_of_names(&part, &mut faults);
     *counts = faults.counts;
-    report_spaces(rt, &part);
     part
+}
+
+/// Refuses a file in which rows of a handle stand apart, and tells which.
+fn check_together(
+    rt: &HostRuntime,
+    rows: &HandleRows<'_>,
+    counts: &Counts,
+) -> Result<(), ImportFault> {
+    if rows.note_apart(&mut told_faults(rt, counts))? {
+        return Err(ImportFault::Apart);
+    }
+    Ok(())
 }
 
 /// The tasks that create handles of a part: all of them, or of an update those that aren't there, after the others are updated.
@@ -275,6 +296,7 @@ fn import_rows(
         Ok(rows) => rows,
         Err(fault) => return Err(ImportFault::Header(fault)),
     };
+    check_together(rt, &rows, counts)?;
     if import.is_dry && !import.is_update {
         read_all(rt, &mut rows, counts);
         return Ok(());
@@ -294,20 +316,22 @@ fn print_counts(rt: &HostRuntime, import: &ImportOptions, counts: &Counts) {
         changed,
         there,
         failed,
+        warnings,
         ..
     } = *counts;
     let _ = match (import.is_update, import.is_dry) {
-        (false, false) => println!(rt; "{created} created, {there} there already, {failed} failed"),
-        (false, true) => {
-            println!(rt; "{created} could be created, {failed} failed; nothing was sent")
-        }
-        (true, false) => println!(rt;
+        (false, false) => print!(rt; "{created} created, {there} there already, {failed} failed"),
+        (false, true) => print!(rt;
+            "{created} could be created, {failed} failed; nothing was sent, so it isn't known which exist: --update --dry-run asks"
+        ),
+        (true, false) => print!(rt;
             "{created} created, {changed} changed, {there} there already, {failed} failed"
         ),
-        (true, true) => println!(rt;
+        (true, true) => print!(rt;
             "{created} would be created, {changed} changed, {there} there already, {failed} failed; only questions were sent"
         ),
     };
+    end_counts(rt, warnings);
 }
 
 /// Says on standard error why an import stopped.

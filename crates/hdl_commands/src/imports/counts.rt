@@ -29,6 +29,7 @@ pub(crate) struct Counts {
     pub changed: usize,
     pub there: usize,
     pub failed: usize,
+    pub warnings: usize,
     /// How many of the last requests were answered busy.
     pub busy: usize,
     pub refusal: Option<Refusal>,
@@ -43,6 +44,7 @@ impl Counts {
             changed: 0,
             there: 0,
             failed: 0,
+            warnings: 0,
             busy: 0,
             refusal: None,
             progress,

@@ -9,6 +9,7 @@ use crate::fault::ArgumentFault;
 use crate::imports::counts::{Counts, print_code, print_line};
 use crate::imports::reading::question;
 use crate::imports::rows::Faults;
+use crate::warnings::Warning;
 use hdl_client::{Batch, ClientFault, Outcomes, Session, Task, Transport};
 use hdl_msg::{Body, ContentView, OpCode, ReplyView, ResponseCode, Values, read_request};
 use hdl_value_lines::{printed_octets, shown_line};
@@ -39,12 +40,10 @@ impl Faults for Creations<'_> {
         self.counts.fail();
     }
 
-    fn note_type(&mut self, line: usize, handle: &[u8], kind: &[u8]) {
+    fn note_warning(&mut self, line: usize, handle: &[u8], warning: Warning) {
         let handle = shown(self.rt.alloc(), handle);
-        let kind = shown(self.rt.alloc(), kind);
-        let _ = println!(self.rt;
-            "line {line}: {handle}: the type is {kind}, not URL: no browser is led there"
-        );
+        let _ = println!(self.rt; "warning: line {line}: {handle}: {warning}");
+        self.counts.warnings = self.counts.warnings.saturating_add(1);
     }
 }
 

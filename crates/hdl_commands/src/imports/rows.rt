@@ -9,9 +9,11 @@ use crate::fault::ArgumentFault;
 use crate::imports::columns::{Columns, columns_of, fields_in, is_closed};
 use crate::imports::creation::creation_task;
 use crate::imports::row::value_in_row;
+use crate::imports::together::HandlesSoFar;
+use crate::warnings::{Warning, warning_of};
 use csv::ByteRecord;
 use hdl_client::Task;
-use hdl_value::{RawRef, URL, Value, Wire};
+use hdl_value::{RawRef, Value, Wire};
 use hdl_value_lines::{LineFault, cut_at};
 use std::alloc::{AllocError, Global};
 use std::mem;
@@ -30,8 +32,8 @@ pub(crate) trait Faults {
     /// One more handle isn't created.
     fn left_out(&mut self);
 
-    /// The row at this line, of this handle, has a type that is URL but for capital letters.
-    fn note_type(&mut self, line: usize, handle: &[u8], kind: &[u8]);
+    /// The row at this line, of this handle, may not be meant so.
+    fn note_warning(&mut self, line: usize, handle: &[u8], warning: Warning);
 }
 
 /// What is wrong with data that is no text on one line.
@@ -310,8 +312,9 @@ impl<'t> HandleRows<'t> {
         }
         self.push(line, &fields)?;
         let kind = fields.get(self.columns.kind).unwrap_or(b"");
-        if kind != URL && kind.eq_ignore_ascii_case(URL) {
-            faults.note_type(self.lines, handle, kind);
+        let octets = fields.get(self.columns.bytes).unwrap_or(b"");
+        if let Some(warning) = warning_of(kind, octets) {
+            faults.note_warning(self.lines, handle, warning);
         }
         Ok(())
     }
@@ -337,6 +340,40 @@ impl<'t> HandleRows<'t> {
             None => self.lines,
         };
         lines.saturating_sub(1)
+    }
+
+    /// The handle of a line; None if the line says nothing.
+    fn handle_in(&self, line: &[u8]) -> Result<Option<Vec<u8>>, AllocError> {
+        let Some(fields) = fields_in(self.alloc, self.separator, line)? else {
+            return Ok(None);
+        };
+        if is_blank(&fields) {
+            return Ok(None);
+        }
+        let handle = fields.get(self.columns.handle).unwrap_or(b"");
+        Ok(Some(Vec::from_slice(self.alloc, handle)?))
+    }
+
+    /// Tells each line at which rows of a handle go on after rows of others. Answers whether there is one.
+    pub fn note_apart<F: Faults>(&self, faults: &mut F) -> Result<bool, AllocError> {
+        let mut so_far = HandlesSoFar::new(self.alloc);
+        let (mut rest, mut number, mut is_apart) = (self.rest, self.lines, false);
+        for _ in 0..u64::MAX {
+            if rest.is_empty() {
+                break;
+            }
+            let (line, after) = line_of(rest);
+            rest = after;
+            number = number.saturating_add(1);
+            let Some(handle) = self.handle_in(line)? else {
+                continue;
+            };
+            if let Some(first) = so_far.note(number, &handle)? {
+                faults.note_fault(number, &handle, ArgumentFault::Apart(first));
+                is_apart = true;
+            }
+        }
+        Ok(is_apart)
     }
 
     /// Has the next call of [`HandleRows::fill`] read one handle, as the first did.

@@ -1,5 +1,9 @@
 //! Replacements, asked of a server.
 
+ghost use Rattle.std.specs.Prelude.{OnOk};
+ghost use Rattle.hdl_commands.specs.Addresses.{KeepsAddresses};
+
+use crate::addresses::keeps_followed;
 use crate::advice::{Asked, KeyWords, advice};
 use crate::exit_status::ExitStatus;
 use crate::fault::ArgumentFault;
@@ -8,12 +12,14 @@ use crate::key::key_of;
 use crate::replaces::fault::ReplaceFault;
 use crate::replaces::run::{Counts, ReplaceRun};
 use crate::reporting::report_fault;
+use crate::warnings::end_counts;
 use crate::words::code_name;
 use hdl_client::{Key, Session, Transport, connect};
 use hdl_limits::Octets;
 use hdl_msg::{ContentView, OpCode, RequestBody, ResponseCode};
 use hdl_name::Name;
 use hdl_value::Wire;
+use hdl_value_lines::printed_octets;
 use std::alloc::{AllocError, Global};
 use std::fs::{self, File, OpenOptions};
 use std::io::Write;
@@ -132,14 +138,44 @@ fn named(
     }
 }
 
+/// Refuses beginnings by which an address that a browser is led to becomes another one.
+fn check_beginnings(alloc: Global, old: &[u8], new: &[u8]) -> Result<(), ArgumentFault>
+    ensures { OnOk result (KeepsAddresses old.now new.now) }
+{
+    if old.is_empty() {
+        return Err(ArgumentFault::NoOld);
+    }
+    if !keeps_followed(alloc, old, new)? {
+        return Err(ArgumentFault::NotFollowed);
+    }
+    Ok(())
+}
+
+/// Warns if the old beginning ends with a slash and the new one doesn't. Answers how many warnings there are.
+fn warn_of_slash(rt: &HostRuntime, replacement: &ReplaceOptions) -> usize {
+    let (old, new) = (&replacement.old, &replacement.new);
+    if !old.ends_with('/') || new.ends_with('/') {
+        return 0;
+    }
+    let alloc = rt.alloc();
+    // without memory for it the new beginning is missing
+    let shown = printed_octets(alloc, new.as_bytes()).unwrap_or_else(|_| String::new(alloc));
+    let _ = println!(rt;
+        "warning: OLD ends with a slash and NEW doesn't, so addresses will be such as {shown}report: write {shown}/ if that isn't meant"
+    );
+    1
+}
+
 fn replace_run_of<'r>(
     rt: &'r HostRuntime,
     replacement: &'r ReplaceOptions,
     authority: &Name,
 ) -> Result<ReplaceRun<'r>, ReplaceFault> {
-    if replacement.old.is_empty() {
-        return Err(ArgumentFault::NoOld.into());
-    }
+    check_beginnings(
+        rt.alloc(),
+        replacement.old.as_bytes(),
+        replacement.new.as_bytes(),
+    )?;
     let key = key_of(rt, &replacement.key)?;
     Ok(ReplaceRun {
         rt,
@@ -174,6 +210,7 @@ fn replace(
             &replace_run.key,
         )?,
     };
+    let warnings = warn_of_slash(rt, replacement);
     let ended = replace_run.replace_all(&mut session, &handles);
     let Counts {
         changed,
@@ -181,12 +218,13 @@ fn replace(
         failed,
     } = replace_run.counts;
     let _ = if replacement.is_dry {
-        println!(rt;
+        print!(rt;
             "{changed} would be changed, {kept} have no such URL, {failed} failed; only questions were sent"
         )
     } else {
-        println!(rt; "{changed} changed, {kept} have no such URL, {failed} failed")
+        print!(rt; "{changed} changed, {kept} have no such URL, {failed} failed")
     };
+    end_counts(rt, warnings);
     ended?;
     Ok(ExitStatus::of_failures(failed))
 }

@@ -17,4 +17,4 @@ pub returns-in-Err-clause-asked : goal.returns-in-Err-clause-asked
 returns-in-Err-clause-asked g c =
     let shown : is_of_shown c.args.form.draft.task ≡ true = search rules in
     let undone : says_done c.in-Err.answer.status ≡ false = search rules in
-    asked_so c.in_ok-value.ensures.asked (λ xs tried. inl (shown, stopped c.args.order.now c.args.body.now c.args.form.draft _ c.result_page.result xs (refused c.in-Err.answer c.result_page.result undone c.result_page.ensures) tried))
+    asked_so c.in_ok-value.ensures.asked (λ xs tried. inl (shown, stopped c.args.order.now c.args.body.now c.args.form.draft _ c.result_page.result xs (refused c.in-Err.answer c.result_page.result undone c.result_page.ensures.page) tried))

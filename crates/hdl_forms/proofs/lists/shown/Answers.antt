@@ -1,7 +1,7 @@
+use Rattle.std.proofs.Common.{◌∙◌, ◌++◌, ap}
 use Rattle.std.proofs.lemmas.Result.{IfOk-weaker}
-use Rattle.hdl_forms.specs.Lists.{buttons}
-use Rattle.hdl_forms.specs.Template.{markup_of}
-use Rattle.hdl_forms.specs.declared.markup.Template.TheVariants as templates
+use Rattle.hdl_forms.specs.Lists.{buttons, foot_template}
+use Rattle.hdl_forms.specs.Template.{filled, markup_of}
 use Rattle.hdl_forms.proofs.Rows.{footed}
 use Rattle.hdl_forms.proofs.lists.shown.Goals as goal
 
@@ -12,7 +12,7 @@ returns-clause-body c =
     (λ answer e. (
       form,
       c.in_ok-form.ensures,
-      footed (markup_of templates.ListFoot) _ _ _ answer.body.items form (buttons c.args.part.now.next) c.args.handles.now c.deref.result.now c.args.part.now.found.items c.new.result.list.items
-          c.in_ok-page.ensures c.in_ok-page-2.ensures c.deref.ensures.value c.in_ok-page-3.ensures c.new.ensures e,
+      footed (markup_of (foot_template c.args.part.now.next)) _ _ _ answer.body.items form (buttons c.args.part.now.next) c.args.handles.now c.deref.result.now c.args.part.now.found.items c.new.result.list.items
+          c.in_ok-page.ensures c.in_ok-page-2.ensures c.deref.ensures.value (c.in_ok-page-3.ensures ∙ ap (λ t. c.in_ok-page-2.page ++ filled (markup_of t) c.new.result.list.items) c.foot_template.ensures) c.new.ensures e,
     ))
     c.answer_of.ensures.body

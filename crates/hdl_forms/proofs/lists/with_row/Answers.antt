@@ -1,9 +1,8 @@
 use Rattle.std.proofs.Common.{◌≡◌, ◌∙◌, ◌++◌, ◌∷◌, [], ap, List, ℕ}
 use Rattle.std.proofs.lemmas.Result.{IfOk-weaker}
 use Rattle.hdl_proxy.specs.Link.{path_to}
-use Rattle.hdl_forms.specs.Lists.{name_at}
+use Rattle.hdl_forms.specs.Lists.{name_at, row_template}
 use Rattle.hdl_forms.specs.Template.{filled, markup_of}
-use Rattle.hdl_forms.specs.declared.markup.Template.TheVariants as templates
 use Rattle.hdl_forms.proofs.lists.with_row.Goals as goal
 
 -- three texts, one after the other
@@ -19,4 +18,6 @@ returns c =
     ∙ ap (λ a. a ∷ c.name_at-name.result.now ∷ c.url_at.result.now ∷ []) path
     ∙ ap (λ b. path_to name ∷ b ∷ c.url_at.result.now ∷ []) c.name_at-name.ensures
     ∙ ap (λ u. path_to name ∷ name ∷ u ∷ []) c.url_at.ensures in
-    IfOk-weaker c.with.result _ _ (λ after e. e ∙ ap (λ t. c.args.page ++ filled (markup_of templates.Row) t) texts) c.with.ensures
+    IfOk-weaker c.with.result _ _
+    (λ after e. e ∙ ap (λ t. c.args.page ++ filled (markup_of t) c.in_ok-texts-2.texts.list.items) c.row_template.ensures ∙ ap (λ t. c.args.page ++ filled (markup_of (row_template c.args.handles.now c.args.place)) t) texts)
+    c.with.ensures

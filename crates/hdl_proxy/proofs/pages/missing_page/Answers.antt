@@ -10,8 +10,8 @@ pub returns-clause-body : goal.returns-clause-body
 unfolding missing_page
 returns-clause-body c =
     let name = name_part c.args.asked.now in
-    let meant = meant_part (option_copied c.args.meant) in
-    let help = advice_part 100 c.args.asked.now in
+    let meant = meant_part c.args.language (option_copied c.args.meant) in
+    let help = advice_part c.args.language 100 c.args.asked.now in
     ap (λ (v : Vec ℕ). v.items) c.page_answer.ensures.body
     ∙ (three c.in_ok-page.page.octets.items _ _ _ name meant help
     c.in_ok-put_name.ensures

@@ -3,7 +3,9 @@ use Rattle.std.specs.Prelude.{codes}
 use Rattle.std.proofs.lemmas.Result.{on_ok_weaker}
 use Rattle.hdl_proxy.specs.Escape.{escaped}
 use Rattle.hdl_proxy.specs.Link.{path_to_json}
+use Rattle.hdl_languages.specs.declared.phrase.Phrase.TheVariants as phrases
 use Rattle.hdl_proxy.specs.Pages.{json_part}
+use Rattle.hdl_proxy.specs.Phrases.{phrase_part}
 use Rattle.hdl_proxy.proofs.Joined.{three, said}
 use Rattle.hdl_proxy.proofs.pages.put_json_link.Goals as goal
 
@@ -11,10 +13,10 @@ pub returns : goal.returns
 unfolding json_part
 returns c =
     let name = c.args.name.now in
-    on_ok_weaker c.markup-2.result (λ put.
+    on_ok_weaker c.phrase.result (λ put.
     three c.args.page.now.octets.items _ _ _
-    (codes "<p><small><a href=\"") (escaped (path_to_json name)) (codes "\">For programs: these values as JSON</a></small></p>\n")
+    (codes "<p><small><a href=\"") (escaped (path_to_json name)) (phrase_part c.args.language (codes "\">") phrases.AsJson (codes "</a></small></p>\n"))
     c.in_ok-markup.ensures
     (said c.markup.new.self.octets.items _ c.octets.result.now (path_to_json name) c.in_ok-text.ensures (c.octets.ensures.octets ∙ c.in_ok-to.ensures))
     put)
-    c.markup-2.ensures
+    c.phrase.ensures

@@ -8,6 +8,6 @@ loop-value-preserved c =
     let done = c.loop-value.invariant in
     let put = c.in_ok-put_row.ensures in (
       done.0 ++ put.0,
-      rows_more (is_of c.args.kind.now) c.args.values.now c.loop-value.value-index c.value-item.result c.is_of.result done.0 put.0 (omega arith) c.value-item.is c.is_of.ensures done.1 put.1,
+      rows_more c.args.language (is_of c.args.kind.now) c.args.values.now c.loop-value.value-index c.value-item.result c.is_of.result done.0 put.0 (omega arith) c.value-item.is c.is_of.ensures done.1 put.1,
       put.2 ∙ ap (λ (x : List ℕ). x ++ put.0) done.2 ∙ append_assoc c.args.page.now.octets.items done.0 put.0,
     )

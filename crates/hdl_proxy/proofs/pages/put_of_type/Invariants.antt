@@ -5,4 +5,4 @@ use Rattle.hdl_proxy.proofs.pages.put_of_type.Given as goal
 
 abbrev pub invariant-loop-value : goal.invariant-loop-value
 invariant-loop-value l =
-    (part : List ℕ) × IsSections (filter (is_of l.kind) (take l.value-index l.values)) part × (l.page.octets.items ≡ l.fn.page.octets.items ++ part)
+    (part : List ℕ) × IsSections l.language (filter (is_of l.kind) (take l.value-index l.values)) part × (l.page.octets.items ≡ l.fn.page.octets.items ++ part)

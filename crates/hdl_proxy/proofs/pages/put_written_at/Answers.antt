@@ -10,8 +10,8 @@ returns c =
     let before = c.args.page.now.octets.items in
     let timestamp = c.args.timestamp in
     let text : List ℕ = string_bytes c.in-Some.moment in
-    let shown : written_part timestamp (Some text) ≡ moment_part text = cond-false (timestamp == 0) [] (moment_part text) (false_from_ne_true (timestamp == 0) (λ t. c.if-timestamp-eq0.false (eqb-true timestamp 0 t))) in
-    let same : written_part timestamp (option_map string_bytes c.args.written) ≡ written_part timestamp (Some text) = ap (λ (o : Option (String Global)). written_part timestamp (option_map string_bytes o)) c.in-Some.is in
+    let shown : written_part c.args.language timestamp (Some text) ≡ moment_part c.args.language text = cond-false (timestamp == 0) [] (moment_part c.args.language text) (false_from_ne_true (timestamp == 0) (λ t. c.if-timestamp-eq0.false (eqb-true timestamp 0 t))) in
+    let same : written_part c.args.language timestamp (option_map string_bytes c.args.written) ≡ written_part c.args.language timestamp (Some text) = ap (λ (o : Option (String Global)). written_part c.args.language timestamp (option_map string_bytes o)) c.in-Some.is in
     on_ok_weaker c.put_moment.result (λ put.
-    put ∙ ap (λ (t : List ℕ). before ++ moment_part t) c.as_bytes.ensures.value ∙ ap (λ (t : List ℕ). before ++ t) (sym (same ∙ shown)))
+    put ∙ ap (λ (t : List ℕ). before ++ moment_part c.args.language t) c.as_bytes.ensures.value ∙ ap (λ (t : List ℕ). before ++ t) (sym (same ∙ shown)))
     c.put_moment.ensures

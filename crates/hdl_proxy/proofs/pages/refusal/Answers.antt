@@ -8,7 +8,7 @@ pub returns-clause-body : goal.returns-clause-body
 unfolding refusal_page
 returns-clause-body c =
     let asked = name_part c.args.asked.now in
-    let help = advice_part c.args.code c.args.asked.now in
+    let help = advice_part c.args.language c.args.code c.args.asked.now in
     ap (λ (v : Vec ℕ). v.items) c.page_answer.ensures.body
     ∙ (two c.in_ok-page.page.octets.items c.put_name.new.page.octets.items _ asked help
     c.in_ok-put_name.ensures

@@ -11,7 +11,7 @@ returns-in-Page c =
     let handle = c.args.name.now in
     let values = c.args.values.now in
     let said = c.values_page.ensures in
-    let page : IfOk c.values_page.result (IsPage handle Nothing values) = made_so c.values_page.result _ _ _ _ _ _ (λ a told kept about title body. record { told = told; kept = kept; about = about; title = title; body = body }) said.told said.kept said.about said.title said.body in
+    let page : IfOk c.values_page.result (IsPage c.in-Page.language handle Nothing values) = made_so c.values_page.result _ _ _ _ _ _ (λ a told kept about title body. record { told = told; kept = kept; about = about; title = title; body = body }) said.told said.kept said.about said.title said.body in
     subst (λ form. IfOk c.values_page.result (ShowsValues form handle c.args.wish.now.append.now c.args.wish.now.locatt.now values)) (sym c.in-Page.is) page
 
 pub returns-in-Json : goal.returns-in-Json

@@ -22,7 +22,7 @@ returns-in-Some-clause-asks c = λ of_handle.
     let second : texts_of c.deref-in-Some-2.result.now ≡ pairs = ap texts_of c.deref-in-Some-2.ensures.value ∙ c.in_ok-pairs.ensures in
     let stays : form ≡ json_form pairs = c.json_form.ensures ∙ ap json_form first in
     let exact : IsExact path text name = (behind_front json_path path text c.in-Some.ensures.cases, c.deref.ensures.value ∙ c.in_ok-octets.ensures) in
-    IfOk-weaker c.begin_handle.result _ (AsksAddress path pairs)
+    IfOk-weaker c.begin_handle.result _ (AsksAddress c.args.language path pairs)
     (λ (next : Next) h. (form, text, name, (inl (stays, exact), subst (λ (ps : List (List ℕ × List ℕ)). AsksFor text name form ps next) second h)))
     c.begin_handle.ensures.asks
 
@@ -38,11 +38,11 @@ returns-clause-asks c = λ of_handle.
     let name : List ℕ = c.between_spaces-name.result.now in
     let first : texts_of c.deref-3.result.now ≡ pairs = ap texts_of c.deref-3.ensures.value ∙ c.in_ok-pairs.ensures in
     let second : texts_of c.deref-4.result.now ≡ pairs = ap texts_of c.deref-4.ensures.value ∙ c.in_ok-pairs.ensures in
-    let stays : form ≡ page_form pairs = c.page_form.ensures ∙ ap page_form first in
+    let stays : form ≡ page_form c.args.language pairs = c.page_form.ensures ∙ ap (page_form c.args.language) first in
     let sent : List ℕ = c.without_slash-sent.result.now in
     let written : IsWritten sent text = subst (λ (octets : List ℕ). IsWritten octets text) c.as_bytes.ensures.value c.name_within.ensures in
     let spelt = c.between_spaces-name.ensures ∙ ap between_spaces (c.deref-2.ensures.value ∙ c.in_ok-octets-2.ensures) in
     let meant : IsMeant path sent name = (c.without_slash-sent.ensures, (text, (written, spelt))) in
-    IfOk-weaker c.begin_handle-2.result _ (AsksAddress path pairs)
+    IfOk-weaker c.begin_handle-2.result _ (AsksAddress c.args.language path pairs)
     (λ (next : Next) h. (form, sent, name, (inr (stays, (λ under. c.if-starts_with.ensures.cases under.0 under.1), meant), subst (λ (ps : List (List ℕ × List ℕ)). AsksFor sent name form ps next) second h)))
     c.begin_handle-2.ensures.asks

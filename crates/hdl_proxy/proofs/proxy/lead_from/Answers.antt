@@ -14,6 +14,6 @@ returns-clause-leads c =
     let same : c.between_spaces.result.now ≡ sent = c.between_spaces.ensures ∙ ap between_spaces c.as_bytes.ensures.value in
     let named : IsPasted own sent name = subst (λ (text : List ℕ). IsPasted own text name) same c.in_ok-name.ensures in
     let meant : c.between_spaces-2.result.now ≡ between_spaces name = c.between_spaces-2.ensures ∙ ap between_spaces c.deref.ensures.value in
-    IfOk-weaker c.lead.result _ (LeadsFromPasted own c.args.sent.now)
-    (λ (a : Answer) h. (name, (named, subst (λ (octets : List ℕ). LeadsToName octets a) meant h)))
+    IfOk-weaker c.lead.result _ (LeadsFromPasted c.args.language own c.args.sent.now)
+    (λ (a : Answer) h. (name, (named, subst (λ (octets : List ℕ). LeadsToName c.args.language octets a) meant h)))
     c.lead.ensures.leads

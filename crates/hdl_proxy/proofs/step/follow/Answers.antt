@@ -1,7 +1,7 @@
 use Rattle.std.proofs.Common.{◌≡◌, ◌≤◌, ℕ, List, length, true, false, inl, inr, sym, subst, ◌∙◌, rules}
 use Rattle.hdl_proxy.specs.Alias.{is_among}
 use Rattle.hdl_proxy.specs.Step.{LeadsNowhere, asked_for}
-use Rattle.hdl_proxy.specs.declared.step.TheConstants.{CIRCLE, BEYOND}
+use Rattle.hdl_languages.specs.declared.phrase.Phrase.TheVariants as phrases
 use Rattle.hdl_proxy.proofs.step.follow.Goals as goal
 
 pub returns-then-is_among : goal.returns-then-is_among
@@ -12,7 +12,7 @@ returns-then-is_among c =
     let told : c.deref-then-is_among.result.now ≡ asked_for question = c.deref-then-is_among.ensures.value ∙ c.in_ok-push.ensures.items in
     inl (
       subst (λ (names : List (List ℕ)). is_among names target ≡ true) tried (sym c.is_among.ensures ∙ c.if-is_among.true),
-      subst (λ (names : List (List ℕ)). LeadsNowhere question.form CIRCLE.now names target c.in_ok-answer.answer) told c.in_ok-answer.ensures,
+      subst (λ (names : List (List ℕ)). LeadsNowhere question.form phrases.InACircle names target c.in_ok-answer.answer) told c.in_ok-answer.ensures,
     )
 
 pub returns-then-hops-ge-HOPS_MOST : goal.returns-then-hops-ge-HOPS_MOST
@@ -25,5 +25,5 @@ returns-then-hops-ge-HOPS_MOST c =
     inr (
       subst (λ (names : List (List ℕ)). is_among names target ≡ false) tried (sym c.is_among.ensures ∙ c.if-is_among.false),
       many,
-      subst (λ (names : List (List ℕ)). LeadsNowhere question.form BEYOND.now names target c.in_ok-answer-2.answer) told c.in_ok-answer-2.ensures,
+      subst (λ (names : List (List ℕ)). LeadsNowhere question.form phrases.BeyondTen names target c.in_ok-answer-2.answer) told c.in_ok-answer-2.ensures,
     )

@@ -1,4 +1,5 @@
 use Rattle.std.proofs.Common.{◌≡◌, ℕ, List, Option, None, ap, subst, ◌∙◌}
+use Rattle.hdl_proxy.specs.Format.{language_of}
 use Rattle.hdl_proxy.specs.Guess.{IsGuess, IsMissing}
 use Rattle.hdl_proxy.specs.Step.{first_of, tried_for}
 use Rattle.hdl_proxy.proofs.step.try_next.Goals as goal
@@ -14,5 +15,6 @@ returns-clause-tries c =
     let guess = subst (λ (asked : List ℕ). IsGuess (tried_for question) asked None) (c.first_of.ensures ∙ ap first_of again) of_all in
     let answer = c.in_ok-missing_page-in-None.field-0 in
     let told = c.in_ok-missing_page-in-None.ensures in
-    let missing : IsMissing c.first_of-in-None.result.now None answer = record { told = told.told; kept = told.kept; title = told.title; body = told.body } in
-    (None, (guess, subst (λ (asked : List ℕ). IsMissing asked None answer) (c.first_of-in-None.ensures ∙ ap first_of last) missing))
+    let missing : IsMissing c.language-language.result c.first_of-in-None.result.now None answer = record { told = told.told; kept = told.kept; title = told.title; body = told.body } in
+    let in_language = subst (λ language. IsMissing language c.first_of-in-None.result.now None answer) c.language-language.ensures missing in
+    (None, (guess, subst (λ (asked : List ℕ). IsMissing (language_of question.form) asked None answer) (c.first_of-in-None.ensures ∙ ap first_of last) in_language))

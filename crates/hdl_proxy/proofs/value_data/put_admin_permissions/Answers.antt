@@ -1,5 +1,5 @@
-use Rattle.std.specs.Prelude.{codes}
 use Rattle.std.proofs.lemmas.Result.{on_ok_weaker}
+use Rattle.hdl_languages.specs.declared.phrase.Phrase.TheVariants as phrases
 use Rattle.hdl_value.specs.declared.permission.AdminPermission.TheVariants as may
 use Rattle.hdl_proxy.specs.Pages.{admin_permissions, permission_part}
 use Rattle.hdl_proxy.proofs.Joined.{three}
@@ -11,9 +11,9 @@ returns c =
     let mask = c.args.mask.0 in
     on_ok_weaker c.put_permission-3.result (λ put.
     three c.args.page.now.octets.items _ _ _
-    (permission_part mask may.AddAdmin (codes "<li>add administrators</li>"))
-    (permission_part mask may.ModifyAdmin (codes "<li>change administrators</li>"))
-    (permission_part mask may.RemoveAdmin (codes "<li>remove administrators</li>"))
+    (permission_part c.args.language mask may.AddAdmin phrases.AddAdministrators)
+    (permission_part c.args.language mask may.ModifyAdmin phrases.ChangeAdministrators)
+    (permission_part c.args.language mask may.RemoveAdmin phrases.RemoveAdministrators)
     c.in_ok-put_permission.ensures
     c.in_ok-put_permission-2.ensures
     put)

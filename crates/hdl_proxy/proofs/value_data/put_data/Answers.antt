@@ -9,4 +9,4 @@ returns c =
     let value = c.args.value.now in
     let no_admin : admin_read value ≡ None = search rules in
     let no_list : list_read value ≡ None = search rules in
-    on_ok_weaker c.put_text.result (λ put. (put.0, text_told value put.0 no_admin no_list put.1, put.2)) c.put_text.ensures
+    on_ok_weaker c.put_text.result (λ put. (put.0, text_told c.args.language value put.0 no_admin no_list put.1, put.2)) c.put_text.ensures

@@ -10,5 +10,5 @@ returns-in-None c =
     let octets = c.args.octets.now in
     let plain : is_plain octets ≡ true = search rules in
     let apart : ¬ (IsFollowed octets) = search rules in
-    let part = sym (cond-true (is_plain octets) (plain_part octets) (digits_part octets) plain) in
+    let part = sym (cond-true (is_plain octets) (plain_part octets) (digits_part c.args.language octets) plain) in
     on_ok_weaker c.element.result (λ put. (plain_part octets, inr (λ linked. apart linked.0, part), put)) c.element.ensures

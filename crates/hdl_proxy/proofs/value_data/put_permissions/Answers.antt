@@ -10,7 +10,7 @@ returns c =
     let mask = c.args.mask.0 in
     on_ok_weaker c.markup-2.result (λ put.
     five c.args.page.now.octets.items _ _ _ _ _
-    (codes "<ul class=\"may\">") (handle_permissions mask) (value_permissions mask) (admin_permissions mask) (codes "</ul>\n")
+    (codes "<ul class=\"may\">") (handle_permissions c.args.language mask) (value_permissions c.args.language mask) (admin_permissions c.args.language mask) (codes "</ul>\n")
     c.in_ok-markup.ensures
     c.in_ok-put_handle_permissions.ensures
     c.in_ok-put_value_permissions.ensures

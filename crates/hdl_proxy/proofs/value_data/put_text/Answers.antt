@@ -7,5 +7,5 @@ pub returns-in-None : goal.returns-in-None
 returns-in-None c =
     let other : ¬ (NamesHandle c.args.value.now) = search rules in
     on_ok_weaker c.put_octets.result
-    (λ put. (put.0, inr (other, subst (λ (octets : List ℕ). IsOctetsPart octets put.0) c.as_slice.ensures put.1), put.2))
+    (λ put. (put.0, inr (other, subst (λ (octets : List ℕ). IsOctetsPart c.args.language octets put.0) c.as_slice.ensures put.1), put.2))
     c.put_octets.ensures

@@ -15,8 +15,10 @@ returns-then-not-count-clause-within g c =
 pub returns-clause-settled : goal.returns-clause-settled
 returns-clause-settled g c =
     settled_as c.prefix-prefix.result.now (prefix c.args.name.now) c.prefix-prefix.ensures (λ m. sum_by m.value c.args.values.now) none c.self.inside.accounts c.args.self.now.holdings (ap (λ (b : Bounded). b.holdings) c.self.view_is) _ (record {
-      gain_values = c.values_amount.ensures.values;
-      gain_octets = c.values_amount.ensures.octets;
+      gain_handles = c.values_count.ensures.handles;
+      gain_values = c.values_count.ensures.values;
+      gain_octets = c.values_count.ensures.octets;
+      back_handles = refl;
       back_values = refl;
       back_octets = refl;
     }) _ c.count_change.ensures
@@ -24,8 +26,10 @@ returns-clause-settled g c =
 pub returns-clause-within : goal.returns-clause-within
 returns-clause-within g c =
     within_as c.prefix-prefix.result.now (prefix c.args.name.now) c.prefix-prefix.ensures (λ m. sum_by m.value c.args.values.now) none c.self.inside.accounts c.args.self.now.holdings (ap (λ (b : Bounded). b.holdings) c.self.view_is) _ (record {
-      gain_values = c.values_amount.ensures.values;
-      gain_octets = c.values_amount.ensures.octets;
+      gain_handles = c.values_count.ensures.handles;
+      gain_values = c.values_count.ensures.values;
+      gain_octets = c.values_count.ensures.octets;
+      back_handles = refl;
       back_values = refl;
       back_octets = refl;
     }) (sym c.in_ok-permit.ensures.permitted)

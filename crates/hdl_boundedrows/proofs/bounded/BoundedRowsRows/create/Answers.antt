@@ -1,6 +1,6 @@
 use Rattle.std.proofs.Common.{ap, sym, refl, ◌∙◌}
 use Rattle.hdl_name.specs.Name.{canonical, prefix}
-use Rattle.hdl_boundedrows.specs.Amount.{in_values, in_octets, with_handle}
+use Rattle.hdl_boundedrows.specs.Amount.{in_handles, in_values, in_octets, with_handle}
 use Rattle.hdl_limits.specs.Counts.{at_most_u64}
 use Rattle.hdl_boundedrows.specs.Bounded.{Bounded, none}
 use Rattle.hdl_boundedrows.proofs.Counts.{settled_as, within_as, uncounted, uncounted_within}
@@ -17,8 +17,10 @@ returns-then-not-count-clause-within g c =
 pub returns-clause-settled : goal.returns-clause-settled
 returns-clause-settled g c =
     settled_as c.prefix-prefix.result.now (prefix c.args.name.now) c.prefix-prefix.ensures (λ m. with_handle m (canonical c.args.name.now) c.args.values.now) none c.self.inside.accounts c.args.self.now.holdings (ap (λ (b : Bounded). b.holdings) c.self.view_is) _ (record {
-      gain_values = c.handle_amount.ensures.values ∙ ap (λ h. at_most_u64 (with_handle in_values h c.args.values.now)) c.canon.ensures;
-      gain_octets = c.handle_amount.ensures.octets ∙ ap (λ h. at_most_u64 (with_handle in_octets h c.args.values.now)) c.canon.ensures;
+      gain_handles = c.handle_count.ensures.handles ∙ ap (λ h. at_most_u64 (with_handle in_handles h c.args.values.now)) c.canon.ensures;
+      gain_values = c.handle_count.ensures.values ∙ ap (λ h. at_most_u64 (with_handle in_values h c.args.values.now)) c.canon.ensures;
+      gain_octets = c.handle_count.ensures.octets ∙ ap (λ h. at_most_u64 (with_handle in_octets h c.args.values.now)) c.canon.ensures;
+      back_handles = refl;
       back_values = refl;
       back_octets = refl;
     }) _ c.count_change.ensures
@@ -26,8 +28,10 @@ returns-clause-settled g c =
 pub returns-clause-within : goal.returns-clause-within
 returns-clause-within g c =
     within_as c.prefix-prefix.result.now (prefix c.args.name.now) c.prefix-prefix.ensures (λ m. with_handle m (canonical c.args.name.now) c.args.values.now) none c.self.inside.accounts c.args.self.now.holdings (ap (λ (b : Bounded). b.holdings) c.self.view_is) _ (record {
-      gain_values = c.handle_amount.ensures.values ∙ ap (λ h. at_most_u64 (with_handle in_values h c.args.values.now)) c.canon.ensures;
-      gain_octets = c.handle_amount.ensures.octets ∙ ap (λ h. at_most_u64 (with_handle in_octets h c.args.values.now)) c.canon.ensures;
+      gain_handles = c.handle_count.ensures.handles ∙ ap (λ h. at_most_u64 (with_handle in_handles h c.args.values.now)) c.canon.ensures;
+      gain_values = c.handle_count.ensures.values ∙ ap (λ h. at_most_u64 (with_handle in_values h c.args.values.now)) c.canon.ensures;
+      gain_octets = c.handle_count.ensures.octets ∙ ap (λ h. at_most_u64 (with_handle in_octets h c.args.values.now)) c.canon.ensures;
+      back_handles = refl;
       back_values = refl;
       back_octets = refl;
     }) (sym c.in_ok-permit.ensures.permitted)

@@ -1,0 +1,5 @@
+pub mod Lines
+pub mod Fields
+pub mod Read
+pub mod Last
+pub mod Laws
