@@ -70,6 +70,15 @@ def texts():
         yield "tools/trials/help/%s has no other text" % program, os.path.isdir(folder) and sorted(os.listdir(folder)) == sorted(names)
 
 
+def runs():
+    """Of each program that `./test` runs for a text, whether it wants the one that is stored."""
+    for program in PROGRAMS:
+        args = repository.path("crates", program, "args")
+        words = repository.text_of(args).split() if os.path.exists(args) else []
+        if len(words) == 1 and words[0] in SHORT:
+            yield "crates/%s/stdout" % program, repository.text_of("crates", program, "stdout") == repository.text_of(stored(program, words[0]))
+
+
 def starts():
     """Each start of a word whose program isn't there."""
     with tempfile.TemporaryDirectory() as folder:
@@ -87,7 +96,7 @@ def starts():
 def main():
     if sys.argv[1:2] == ["--write"]:
         write(sys.argv[2:] or PROGRAMS)
-    return servers.tally([*texts(), *starts()], "another text, or other words; tools/trials/help_texts.py --write writes tools/trials/help")
+    return servers.tally([*texts(), *runs(), *starts()], "another text, or other words; tools/trials/help_texts.py --write writes tools/trials/help")
 
 
 if __name__ == "__main__":

@@ -194,7 +194,7 @@ def full_disk(folder):
         busy = codes.count(BUSY)
         yield "busy once it is full", codes[0] == wire.SUCCESS and codes[-1] == BUSY and set(codes) == {wire.SUCCESS, BUSY}
         yield "not well", server.health() == 503
-        yield "it is said once", soon(lambda: server.said("table: ")) and len(server.said("table: a change can't be written")) == 1
+        yield "it is said once", soon(lambda: server.said("table: a change can't be written")) and len(server.said("table: a change can't be written")) == 1
         yield "it is counted", (server.count("handled_table_failing"), server.count("handled_table_failures_total"), server.count("handled_table_shut")) == (1, busy, 0)
         yield "by operation", server.count('handled_replies_total{publisher="acme",operation="modify",code="3"}') == busy
         yield "reads go on", server.acme.resolved() == wire.SUCCESS
