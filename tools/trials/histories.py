@@ -218,6 +218,9 @@ def lines(sign, *values):
     return "".join("%s %s\n" % (sign, value) for value in values)
 
 
+# What is said behind an undo if the history has more than the change that is undone.
+OLDER = "older changes of this handle stand: hdl history shows them\n"
+
 # How each operation is undone: what is made, what is changed of it, the indexes and the values before, and what is said.
 CASES = {
     "create": ("delete", None, [url(1, "new"), administrator()], "1,100", [], lines("-", url_line(1, "new"), ADMINISTRATOR)),
@@ -241,7 +244,10 @@ def undone(server):
         text = line(1, "create", handle, "-", "1") + line(moment, operation, handle, KEY, indexes, *before)
         plan = "%s %s%s by %s\nundone by %s\n%s" % (told(moment), operation, "" if indexes == "-" else " " + indexes, KEY, undoing, said)
         yield "dry: %s" % operation, server.undo(text, handle, "--dry-run") == (0, plan + "nothing was changed (--dry-run)\n", "") and server.stands(handle) == changed
-        yield "undone: %s" % operation, server.undo(text, handle) == (0, plan + "done\n", "") and server.values(handle) == stood
+        other = (1, "", "hdl: FILE: the last change of this handle isn't of the moment in --at; hdl history shows it: nothing was changed\n")
+        yield "of another moment: %s" % operation, [server.undo(text, handle, "--at", at) for at in ("1", told(1), str(moment + 1), "x")] == [other] * 4 and server.stands(handle) == changed
+        at = str(moment) if operation == "modify" else told(moment)
+        yield "undone: %s" % operation, server.undo(text, handle, "--at", at) == (0, plan + "done\n" + OLDER, "") and server.values(handle) == stood
         yield "twice: %s" % operation, server.undo(text, handle)[0] == 1 and server.values(handle) == stood
 
 

@@ -219,8 +219,9 @@ def agrees():
     status, listen, server = value_of(serve, "--status"), value_of(proxy, "--listen"), value_of(proxy, "--server")
     yield "the server is stopped where it listens", value_of(serve, "--control") == value_of(exec_of("handled.service", "ExecStop"), "--control")
     yield "what is copied is the server's table", copying[1:2] == [value_of(serve, "--table")]
-    logs = [line for line in text_of("logrotate").splitlines() if line.endswith("{")]
-    yield "what is rotated are the logs", logs == ["%s {" % value_of(words, "--log") for words in (serve, proxy)]
+    rotated = [line.removesuffix(" {").split() for line in text_of("logrotate").splitlines() if line.endswith("{")]
+    log, visits = (value_of(words, "--log") for words in (serve, proxy))
+    yield "what is rotated are the logs, and the history beside the server's", rotated == [[log, log.replace(".log", ".history")], [visits]]
     yield "the server that opens its log anew is the one that runs", re.findall(r"handled reopen --control (\S+)", text_of("logrotate")) == [value_of(serve, "--control")]
     yield "what is scraped are the status pages", re.findall(r"targets: \['(.*?)'\]", text_of("prometheus.yml")) == [status, listen]
     jobs = re.findall(r"job_name: (\w+)", text_of("prometheus.yml"))

@@ -218,6 +218,7 @@ fn asked_of(alloc: Global, name: &str, matches: &ArgMatches<'_>) -> Result<Invoc
             server: server_of(alloc, matches)?,
             wire: wire_of(matches),
             key: word(alloc, matches, "key")?,
+            at: given(alloc, matches, "at")?,
             is_dry: matches.get_flag("dry-run"),
         })),
         "export" => Ok(Invocation::Export {

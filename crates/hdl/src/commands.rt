@@ -235,11 +235,17 @@ fn undo<'a>(alloc: Global) -> Result<Command<'a>, AllocError> {
             "Undoes the last change of a handle, unless something was changed since, and prints it",
         )
         .after_help(
-            "It is a change itself: undoing once more brings back what was undone. The data of keys is in no history: set a key anew.",
+            "It is a change itself: undoing once more brings back what was undone. A PUT by the proxy may be several changes: older ones stand. The data of keys is in no history: set a key anew.",
         )
         .arg(asked(alloc, "undo"))?
         .arg(history_file(alloc))?
         .arg(key(alloc).required(true))?
+        .arg(option(
+            alloc,
+            "at",
+            "MOMENT",
+            "Undoes the last change only if it is of this moment, as hdl history prints it, or as the file has it",
+        ))?
         .arg(flag(
             alloc,
             "dry-run",

@@ -148,6 +148,7 @@ fn status_after(fault: &HistoryFault) -> ExitStatus {
         | HistoryFault::Memory => ExitStatus::Arguments,
         HistoryFault::Unasked(_) | HistoryFault::Sent(_) => ExitStatus::NoAnswer,
         HistoryFault::NoChange
+        | HistoryFault::AnotherMoment
         | HistoryFault::Damaged(_)
         | HistoryFault::Undo(_)
         | HistoryFault::Refused(_, _)
@@ -158,9 +159,10 @@ fn status_after(fault: &HistoryFault) -> ExitStatus {
 /// Says on standard error what fault a command on a history has: of the file, of the server, or of its words.
 fn report_history(rt: &HostRuntime, file: &str, server: &str, fault: &HistoryFault) {
     let _ = match fault {
-        HistoryFault::File(_) | HistoryFault::NoChange | HistoryFault::Damaged(_) => {
-            eprintln!(rt; "hdl: {file}: {fault}")
-        }
+        HistoryFault::File(_)
+        | HistoryFault::NoChange
+        | HistoryFault::AnotherMoment
+        | HistoryFault::Damaged(_) => eprintln!(rt; "hdl: {file}: {fault}"),
         HistoryFault::Unasked(_) | HistoryFault::Sent(_) | HistoryFault::Refused(_, _) => {
             eprintln!(rt; "hdl: {server}: {fault}")
         }

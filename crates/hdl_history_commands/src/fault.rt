@@ -22,6 +22,8 @@ pub enum HistoryFault {
     File(io::Error),
     #[error("the history has no change of this handle")]
     NoChange,
+    #[error("the last change of this handle isn't of the moment in --at; hdl history shows it: nothing was changed")]
+    AnotherMoment,
     /// So many lines can't be read.
     #[error("lines of this handle in the history that can't be read: {0}")]
     Damaged(usize),

@@ -21,3 +21,26 @@ pub(crate) fn changes_of(
         Err(error) => Err(HistoryFault::File(error)),
     }
 }
+
+/// The last change of a handle in a file, the first of `found`, and whether there are older ones.
+#[derive(Drop)]
+pub(crate) struct LastChange {
+    pub(crate) found: LastEntries,
+    pub(crate) has_older: bool,
+}
+
+pub(crate) fn last_change_of(
+    rt: &HostRuntime,
+    handle: &str,
+    file: &str,
+) -> Result<LastChange, HistoryFault> {
+    let both = changes_of(rt, handle, file, 2)?;
+    let has_older = both.entries.len() > 1 || both.unreadable > 0 && !both.entries.is_empty();
+    // an entry that is read may stand before a last line that isn't
+    let found = if both.unreadable == 0 {
+        both
+    } else {
+        changes_of(rt, handle, file, 1)?
+    };
+    Ok(LastChange { found, has_older })
+}

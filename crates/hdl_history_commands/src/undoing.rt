@@ -1,10 +1,11 @@
 //! `hdl undo`.
 
 use crate::fault::HistoryFault;
-use crate::file::changes_of;
+use crate::file::{LastChange, last_change_of};
 use crate::key::key_of;
 use crate::server::{ask_values, send_change};
 use crate::words::{push_change, push_values};
+use hdl_audit::Moment;
 use hdl_client::connect;
 use hdl_history::{Entry, values_before};
 use hdl_msg::RequestBody;
@@ -24,6 +25,8 @@ pub struct UndoOptions {
     pub wire: Wire,
     /// A reference to the key that answers the challenges.
     pub key: String,
+    /// The moment of the change that is meant, as `hdl history` prints it or as the file has it; without it any.
+    pub at: Option<String>,
     /// Whether nothing is changed.
     pub is_dry: bool,
 }
@@ -63,12 +66,32 @@ fn undo_entry(rt: &HostRuntime, options: &UndoOptions, entry: &Entry) -> Result<
     Ok(())
 }
 
-/// Undoes the last change of a handle: asks the server what stands, prints what it does, and sends it.
+/// Whether a change is of this moment, as `hdl history` prints it or as the file has it.
+fn is_at(alloc: Global, entry: &Entry, at: &str) -> Result<bool, AllocError> {
+    let printed = format!(in alloc; "{}", Moment(entry.moment))?;
+    let number = format!(in alloc; "{}", entry.moment)?;
+    Ok(at == printed.as_str() || at == number.as_str())
+}
+
+/// Undoes the last change of a handle, if it is of the moment that is asked for: asks the server what stands, prints what it does, and sends it. Says
+/// that older changes stand, if there are any.
 pub fn undo_change(rt: &HostRuntime, options: &UndoOptions) -> Result<(), HistoryFault> {
-    let found = changes_of(rt, &options.handle, &options.file, 1)?;
-    match found.entries.first() {
-        Some(entry) => undo_entry(rt, options, entry),
-        None if found.unreadable > 0 => Err(HistoryFault::Damaged(found.unreadable)),
-        None => Err(HistoryFault::NoChange),
+    let LastChange { found, has_older } = last_change_of(rt, &options.handle, &options.file)?;
+    let Some(entry) = found.entries.first() else {
+        return Err(if found.unreadable > 0 {
+            HistoryFault::Damaged(found.unreadable)
+        } else {
+            HistoryFault::NoChange
+        });
+    };
+    if let Some(at) = &options.at {
+        if !is_at(rt.alloc(), entry, at)? {
+            return Err(HistoryFault::AnotherMoment);
+        }
     }
+    undo_entry(rt, options, entry)?;
+    if has_older && !options.is_dry {
+        let _ = println!(rt; "older changes of this handle stand: hdl history shows them");
+    }
+    Ok(())
 }
