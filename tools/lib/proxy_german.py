@@ -72,6 +72,9 @@ PHRASES = (
     ("What this handle named is gone.", "Was dieses Handle benannte, gibt es nicht mehr."),
     ("What is known about it", "Was darüber bekannt ist"),
     ("Gone: ", "Nicht mehr da: "),
+    (">Change a handle</a>", ">Ein Handle ändern</a>"),
+    (">Create a handle</a>", ">Ein Handle anlegen</a>"),
+    (">List handles</a>", ">Handles auflisten</a>"),
 )
 
 

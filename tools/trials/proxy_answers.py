@@ -260,7 +260,7 @@ def idle(port):
         streams = [stack.enter_context(socket.create_connection(("127.0.0.1", port))) for _ in range(IDLE)]
         began = time.monotonic()
         answer = answered(port, "GET /20/archive")
-        yield "%d idle clients, and one that is answered" % IDLE, answer == wanted(*ARCHIVE_WAY) and time.monotonic() - began < 5
+        yield "%d idle clients, and one that is answered" % IDLE, answer == wanted(*ARCHIVE_WAY) and time.monotonic() - began < 5 * servers.SLOWER
         for stream in streams:
             stream.setblocking(False)
         yield "idle clients are left alone", not any(is_ended(stream) for stream in streams)

@@ -1,7 +1,7 @@
 """proxy_forms.py: changes handles by the forms of the proved program crates/hdl_web/out/hdl_web (`hdl proxy --writes`) as a browser without scripts does: it reads each page, fills in
 its fields and sends them. Behind it is a real server (the proved program crates/handled/out/handled).
 
-Seen as well: what another client changed meanwhile isn't overwritten, forms of other sites and forms without their token are refused, faults stand beside their fields, all text is escaped, and no page and no log has the secret. It takes
+Seen as well: the way from the front page to the form of a handle; how long browsers keep that a handle is gone; what another client changed meanwhile isn't overwritten, forms of other sites and forms without their token are refused, faults stand beside their fields, all text is escaped, and no page and no log has the secret. It takes
 some 3 seconds. Its last line is 'N passed, M failed', a case counting one."""
 
 import base64
@@ -49,8 +49,11 @@ OPENING = (
     (b"10/<a>", wire.value(3, b"NOTE", b"hidden", KEPT, 600)),
     (b"10/<a>", wire.value(4, b"NOTE", b"two\nlines", READABLE, 600)),
     (b"10/<a>", wire.value(5, b"URL", OLD.encode(), READABLE, 3600)),
+    (b"10/gone", wire.value(1, b"HS_GONE", b"withdrawn", READABLE, 600)),
 )
 PATH = "/10/%3Ca%3E"
+OWN_ADDRESS = "https://handles.example.org/"
+NO_NAME = "A handle is a prefix, a slash and a local name, such as 10/a."
 
 
 def tenants(port):
@@ -192,6 +195,8 @@ def changed(one):
     yield "it leads to the values as they are now, to the form, and to another handle", [PATH + "?noredirect&auth", PATH + "?edit", "/?new"] == [link for link in one.page.links if "?" in link]
     one.get(PATH + "?noredirect&auth")
     yield "which no browser keeps", one.fields["cache-control"] == "max-age=0" and NEW in one.page.words
+    one.get(PATH + "?noredirect")
+    yield "nor a page of values", one.fields["cache-control"] == "max-age=0" and NEW in one.page.words
     wanted = dict(before)
     wanted[5] = ("URL", NEW, before[5][2], before[5][3])
     yield "that value alone, with its TTL and permissions", one.values() == wanted
@@ -221,10 +226,10 @@ def added(one):
         yield "a type of " + name, (one.status, one.page.faults) == (400, {"type-fault": "The type is empty, or has a space or other than graphic ASCII characters."}) and one.page.forms[0][2]["type"] == kind
     one.send(type="x" * 256, index="7", text="x")
     yield "a type that is too long", (one.status, one.page.faults) == (400, {"type-fault": "The type is longer than 255 bytes."})
-    for name, alias in (("no slash", "10"), ("no prefix", "/a"), ("an address", "https://example.org/a")):
+    for name, alias in (("no slash", "10"), ("no prefix", "/a"), ("an address", "HTTPS://example.org/a"), ("its scheme", "hdl:10/b")):
         one.send(type="HS_ALIAS", index="7", text=alias)
-        wanted = "An alias names another handle: a prefix, a slash and a local name, such as 10/b."
-        yield "an alias with " + name, (one.status, one.page.faults) == ((400, {"text-fault": wanted}) if name != "an address" else (200, {}))
+        wanted = "An alias names another handle: a prefix, a slash and a local name, such as 10/b, without an address or hdl: before it."
+        yield "an alias with " + name, (one.status, one.page.faults) == (400, {"text-fault": wanted})
         one.get(PATH + "?edit")
         one.send(2, type="HS_ALIAS", index="7", text="10")
     for kind, meant in (("Url", "URL"), ("email", "EMAIL"), ("hs_Alias", "HS_ALIAS"), ("10320/LOC", "10320/loc")):
@@ -268,7 +273,7 @@ def gone(one):
     one.get(PATH + "?noredirect")
     yield "gone is a value", one.status == 200 and one.values()[1][:2] == ("HS_GONE", why)
     one.get(PATH)
-    yield "410, with when and why", one.status == 410 and why in one.page.words and "What this handle named is gone." in one.page.words and "<time datetime=\"20" in one.came[-1] and "?edit" in one.page.links
+    yield "410, with when and why, which no browser keeps", (one.status, one.fields["cache-control"]) == (410, "max-age=0") and why in one.page.words and "What this handle named is gone." in one.page.words and "<time datetime=\"20" in one.came[-1] and "?edit" in one.page.links
     page = one.request("GET", PATH, fields=GERMAN)
     yield "410 in German", one.status == 410 and all(word in page for word in ('<html lang="de">', "<title>Nicht mehr da: ", "Was dieses Handle benannte, gibt es nicht mehr.", ">Geschrieben am <time")) and not english_in(page)
     one.get(PATH + "?noredirect")
@@ -322,6 +327,54 @@ def created(one):
     one.send(handle="10/n\u00fc <new>", text=NEW)
     one.confirm()
     yield "it isn't created twice", (one.status, list(one.page.faults)) == (409, ["alert"]) and one.values(path)[1][1] == OLD
+
+
+def typed(text):
+    """The address to which the page of an existing handle's form sends a text."""
+    return "/?" + urllib.parse.urlencode({"edit": text})
+
+
+def opened(one):
+    """From the front page to the form of a handle, as people paste it."""
+    one.get("/")
+    yield "the front page leads to the forms, first to that of any handle", [link for link in one.page.links if link.startswith("/?")] == ["/?edit", "/?new"] and "Change a handle" in one.page.words
+    page = one.request("GET", "/", fields=GERMAN)
+    yield "a German one too", "/?edit" in one.page.links and "Ein Handle \u00e4ndern" in one.page.words and not english_in(page)
+    for path in ("/?edit", "/?edit=", "/?edit=%20+%0A", "/?edit=10/%3Ca%3E&edit="):
+        one.get(path)
+        yield "a page with one field: " + path, one.status == 200 and is_form_page(one) and one.page.faults == {} and one.page.forms == [("/", "get", {"edit": ""}, [(None, None)])]
+    page = one.request("GET", "/?edit", fields=GERMAN)
+    yield "in English, without a link to itself", '<html lang="en">' in page and "vary" not in one.fields and one.page.title.startswith("Change a handle") and "/?edit" not in one.page.links
+    for text in ("10/<a>", " 10/<a>\n", "\u00a010/<a> ", "hdl:10/<a>", "DOI: 10/<a>", "https://hdl.handle.net/10/%3Ca%3E", "http://dx.doi.org/10/<a> ", OWN_ADDRESS + "10/%3ca%3e", OWN_ADDRESS.upper() + "10/<a>"):
+        one.get(typed(text))
+        yield "the way to its form from " + text, (one.status, one.fields.get("location"), one.fields["cache-control"]) == (302, PATH + "?edit", "no-store") and "vary" not in one.fields
+    for name in ("10/n\u00fc <new>?a&b#c%41\"", "10/a?edit", "10/\u202e", "https://evil.example/10/a"):
+        one.get(typed(name))
+        yield "escaped: " + name, (one.status, one.fields.get("location")) == (302, "/" + urllib.parse.quote(name) + "?edit")
+    for text, why in (("10", NO_NAME), ("hdl:", NO_NAME), ("//evil.example/10/a", NO_NAME), (OWN_ADDRESS, NO_NAME), ("\"><script>'& ", NO_NAME), ("10/" + "x" * 2046, "The name is too long.")):
+        one.get(typed(text))
+        yield "no handle: " + text[:40], (one.status, one.page.faults) == (400, {"edit-fault": why}) and is_form_page(one) and one.page.forms == [("/", "get", {"edit": text}, [(None, None)])]
+        yield "typing goes on in the field: " + text[:40], one.page.focus == "edit" and one.page.title.startswith("Not done: Change a handle") and "<script" not in one.came[-1]
+    for path, status, to in (("/?edit", 200, None), (typed("10"), 400, None), (typed("10/<a>"), 302, PATH + "?edit")):
+        body = one.request("HEAD", path)
+        yield "HEAD " + path, (one.status, one.fields.get("location"), body) == (status, to, "")
+        for method in ("POST", "PUT", "DELETE"):
+            one.request(method, path, "", OWN)
+            yield "%s %s" % (method, path), one.status == 405
+    before = one.values()
+    one.get(typed("10/<a>") + "&task=remove&index=5&token=1&" + urllib.parse.urlencode({"key": ADMIN, "secret": SECRET}))
+    yield "a link of another site does nothing more", (one.status, one.fields.get("location")) == (302, PATH + "?edit") and one.values() == before
+    one.get("/?edit=10&key=1&secret=2&handle=10/a")
+    yield "nor does its page", one.page.forms == [("/", "get", {"edit": "10"}, [(None, None)])]
+    for path, status, to in (("/?handle=10/%3Ca%3E", 302, PATH), (PATH + "?edit=10/b", 200, None), ("/?new&edit=10/b", 200, None), ("/?edited=10/b", 200, None)):
+        one.get(path)
+        yield "not " + path, (one.status, one.fields.get("location")) == (status, to)
+    one.get(typed("hdl:10/<a>"))
+    one.get(one.fields["location"])
+    one.send(text=NEW)
+    one.confirm()
+    yield "changed from the front page", one.status == 200 and one.values()[5][1] == NEW
+    by_another(one, index=5, type="URL", data=OLD, ttl=3600)
 
 
 def outdated(one):
@@ -497,12 +550,28 @@ def unreadable(behind):
 
 def without_the_word(port):
     one = Browser(port)
+    for path in ("/", "/?edit", typed("10/<a>")):
+        one.get(path)
+        yield "the front page without --writes: " + path, one.status == 200 and "Find a handle" in one.page.words and not any("edit" in link for link in one.page.links)
     one.get(PATH + "?noredirect")
     yield "no link without --writes", "?edit" not in one.page.links
     one.get(PATH + "?edit")
     yield "no form without --writes", one.status == 302
     one.request("POST", PATH + "?edit", "token=1", OWN)
     yield "no change without --writes", one.status == 405
+
+
+def kept(behind):
+    """That a handle is gone is kept by browsers no longer than a redirect is, nor than its values."""
+    for most, wanted in ((None, "max-age=300"), (60, "max-age=60"), (86400, "max-age=600"), (0, "no-store")):
+        for cached in ((), ("--cache", "600")):
+            with proxy(behind, *cached, *(() if most is None else ("--browser-cache", str(most)))) as port:
+                one = Browser(port)
+                for _ in range(2):
+                    one.get("/10/gone")
+                    yield "gone, --browser-cache %s %s" % (most, cached), (one.status, one.fields["cache-control"]) == (410, wanted)
+                one.get("/10/gone?noredirect")
+                yield "its values, --browser-cache %s %s" % (most, cached), (one.status, one.fields["cache-control"]) == (200, "max-age=600")
 
 
 @contextlib.contextmanager
@@ -520,9 +589,10 @@ def main():
         cases += unreadable(behind)
         with proxy(behind) as port:
             cases += without_the_word(port)
-        with proxy(behind, "--writes", "--log", log, "--history", history) as port:
+        cases += kept(behind)
+        with proxy(behind, "--writes", "--log", log, "--history", history, "--address", OWN_ADDRESS) as port:
             one = Browser(port)
-            for part in (changed, remembered, added, gone, german, created, meanwhile, outdated, refused):
+            for part in (changed, remembered, added, gone, german, created, meanwhile, outdated, refused, opened):
                 cases += part(one)
             with open(log, encoding="utf-8") as lines:
                 one.came.append(lines.read())

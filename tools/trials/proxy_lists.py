@@ -108,16 +108,16 @@ def shown(one):
         yield "those with '%s' that lead to '%s'" % (name, url), sum(pages(one, q=name, to=url), []) == wanted("10", name, url)
     find(one, q="\"><b>", to="'&")
     kept = {name: value for name, value in one.page.forms[0][2].items() if name != "token"}
-    yield "fields keep what was typed, but not the key and its secret", kept == {"list": "10", "q": "\"><b>", "to": "'&", "key": "", "secret": ""} and "No handle was found on this page." in one.page.words
+    yield "fields keep what was typed, but not the key and its secret", kept == {"list": "10", "q": "\"><b>", "to": "'&", "key": "", "secret": ""} and any(word.startswith("No handle was found.") for word in one.page.words)
     for place, rows in (("4294967295", []), ("x", whole[0]), ("700", whole[1][200:])):
         find(one, **{"from": place})
         yield "from the place " + place, rows_of(one) == rows
     one.get("/?list=10&q=leg")
     yield "an address fills in the form", one.status == 200 and is_form_page(one) and rows_of(one) == [] and one.page.forms[0][2]["list"] == "10" and one.page.forms[0][2]["q"] == "leg"
     one.get("/")
-    yield "the front page leads there", "/?list" in one.page.links and "/?new" in one.page.links
+    yield "the front page leads there", [link for link in one.page.links if link.startswith("/?")] == ["/?edit", "/?new", "/?list"]
     page = one.request("GET", "/", fields={"Accept-Language": "de"})
-    yield "a German front page too", '<html lang="de">' in page and {"/?list", "/?new"} <= set(one.page.links) and {"Ein Handle anlegen", "Handles auflisten"} <= set(one.page.words)
+    yield "a German front page too", '<html lang="de">' in page and {"/?edit", "/?list", "/?new"} <= set(one.page.links) and {"Ein Handle \u00e4ndern", "Ein Handle anlegen", "Handles auflisten"} <= set(one.page.words)
     page = one.request("GET", "/?list", fields={"Accept-Language": "de"})
     yield "a list is in English", '<html lang="en">' in page and "vary" not in one.fields and "A list of handles" in one.page.words
 

@@ -8,6 +8,7 @@ use Rattle.hdl_value.specs.Reading.{◌>>=◌}
 use Rattle.hdl_value_lines.specs.Fields.{is_word, number_in, permissions_in}
 use Rattle.hdl_proxy.specs.Url.{IsFollowed}
 use Rattle.hdl_rest.specs.Data.{◌>>>◌}
+use Rattle.hdl_forms.specs.Address.{IsAddress}
 use Rattle.hdl_forms.specs.declared.draft.Draft.{Draft}
 use Rattle.hdl_forms.specs.declared.draft.DraftFault.{DraftFault}
 use Rattle.hdl_forms.specs.declared.draft.DraftFault.TheVariants as fault
@@ -133,9 +134,13 @@ IsUrlUsable draft = (is_free draft ≡ true) ⊎ IsFollowed draft.text
 abbrev pub is_alias : Draft → Bool
 is_alias draft = not (is_remove draft.task) && bytes_eq draft.kind (codes "HS_ALIAS")
 
+-- a handle, as it is and not as readers paste it
+abbrev pub IsPlainHandle : List ℕ → Type 0
+IsPlainHandle text = IsHandle text × ¬ (IsAddress text)
+
 -- an alias is a handle
 abbrev pub IsAliasUsable : Draft → Type 0
-IsAliasUsable draft = (is_alias draft ≡ false) ⊎ IsHandle draft.text
+IsAliasUsable draft = (is_alias draft ≡ false) ⊎ IsPlainHandle draft.text
 
 abbrev pub IsUsable : Draft → Type 0
 IsUsable draft = IsUrlUsable draft × IsAliasUsable draft

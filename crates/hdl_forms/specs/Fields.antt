@@ -3,9 +3,18 @@ use Rattle.std.specs.Prelude.{ℕ, ◌==◌, if◌then◌else◌, List, [], ◌�
 use Rattle.hdl_forms.specs.Template.{filled, markup_of}
 use Rattle.hdl_forms.specs.declared.markup.Template.{Template}
 use Rattle.hdl_forms.specs.declared.markup.Template.TheVariants as templates
+use Rattle.hdl_forms.specs.declared.pages.TypedField.{TypedField}
 
 abbrev pub field_template : List ℕ → Template
 field_template fault = if length fault == 0 then templates.Field else templates.FaultyField
+
+-- a field, and what is wrong with it
+abbrev pub field_texts : TypedField → List ℕ → List (List ℕ)
+field_texts field fault =
+    field.id.now ∷ field.label.now ∷ field.note.now ∷ field.id.now ∷ field.name.now ∷ field.value.now ∷ field.placeholder.now ∷ field.keys.now ∷ field.id.now ∷ field.id.now ∷ fault ∷ []
+
+abbrev pub field_part : TypedField → List ℕ → List ℕ
+field_part field fault = filled (markup_of (field_template fault)) (field_texts field fault)
 
 abbrev pub key_template : List ℕ → Template
 key_template fault = if length fault == 0 then templates.Key else templates.FaultyKey

@@ -1,3 +1,4 @@
+pub mod Address
 pub mod Change
 pub mod Confirm
 pub mod Draft
@@ -6,6 +7,7 @@ pub mod Guarded
 pub mod History
 pub mod Lists
 pub mod FormLink
+pub mod Open
 pub mod Origin
 pub mod Pages
 pub mod Taken

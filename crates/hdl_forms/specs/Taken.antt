@@ -1,11 +1,11 @@
 -- What a form that came is taken for.
-use Rattle.std.specs.Prelude.{◌≡◌, ◌⊎◌, ⊤, ℕ, if◌then◌else◌, List, [], codes, unwrap_or, Ok}
+use Rattle.std.specs.Prelude.{◌≡◌, ⊤, ℕ, if◌then◌else◌, List, [], codes, unwrap_or, Ok}
 use Rattle.std.specs.Str.{is_utf8, trim}
 use Rattle.hdl_proxy.specs.Query.{pairs_of}
-use Rattle.hdl_proxy.specs.Url.{Begins}
 use Rattle.hdl_proxy.specs.declared.answer.Answer.{Answer}
 use Rattle.hdl_proxy.specs.declared.answer.Status.{Status}
 use Rattle.hdl_proxy.specs.declared.answer.Status.TheVariants as statuses
+use Rattle.hdl_forms.specs.Address.{IsAddress}
 use Rattle.hdl_forms.specs.Change.{IsActOf, IsBodyOf, IsKeyOf}
 use Rattle.hdl_forms.specs.Confirm.{HasWarnings}
 use Rattle.hdl_forms.specs.Draft.{Pairs, draft_in, first_named}
@@ -35,10 +35,6 @@ subject_of places.New = []
 abbrev pub about : FormPlace → Pairs → List ℕ
 about (places.Edit name) pairs = name
 about places.New pairs = trim (text_in (codes "handle") pairs)
-
--- it begins as an address or as an identifier that a reader pastes
-abbrev pub IsAddress : List ℕ → Type 0
-IsAddress name = Begins name (codes "http://") ⊎ Begins name (codes "https://") ⊎ Begins name (codes "hdl:") ⊎ Begins name (codes "doi:")
 
 -- a new handle's name isn't so
 abbrev pub IsPlain : FormPlace → List ℕ → Type 0

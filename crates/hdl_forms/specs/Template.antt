@@ -3,7 +3,7 @@ use Rattle.std.specs.Prelude.{◌≡◌, ℕ, ◌==◌, if◌then◌else◌, Lis
 use Rattle.hdl_proxy.specs.Escape.{escaped}
 use Rattle.hdl_forms.specs.declared.markup.Template.{Template}
 use Rattle.hdl_forms.specs.declared.markup.Template.TheVariants as templates
-use Rattle.hdl_forms.specs.declared.markup.TheConstants.{VALUES, ONE_AT_A_TIME, VALUE, VALUE_BUTTONS, FIELD, FAULTY_FIELD, KEY, FAULTY_KEY, SECRET, FAULTY_SECRET, NONE, ADD, ADD_BUTTON, GONE, CREATE, CREATE_BUTTON, SHOWN, WARNING, TYPE_WARNING, CHANGED, CONFIRM, CONFIRM_BUTTON, BACK, LOOK, DONE, REFUSED, LIST, PREFIX, FAULTY_PREFIX, WORDS, FIND, FIND_OR_NEXT, ROWS, ROW, GONE_ROW, ROWS_END, NOTHING, LIST_FOOT, LIST_FOOT_NEXT, HISTORY, ENTRY, BEFORE, ENTRY_END, HISTORY_END}
+use Rattle.hdl_forms.specs.declared.markup.TheConstants.{VALUES, ONE_AT_A_TIME, VALUE, VALUE_BUTTONS, FIELD, FAULTY_FIELD, KEY, FAULTY_KEY, SECRET, FAULTY_SECRET, NONE, ADD, ADD_BUTTON, GONE, OPEN, OPEN_BUTTON, CREATE, CREATE_BUTTON, SHOWN, WARNING, TYPE_WARNING, CHANGED, CONFIRM, CONFIRM_BUTTON, BACK, LOOK, DONE, REFUSED, LIST, PREFIX, FAULTY_PREFIX, WORDS, FIND, FIND_OR_NEXT, ROWS, ROW, GONE_ROW, ROWS_END, NOTHING, LIST_FOOT, LIST_FOOT_NEXT, HISTORY, ENTRY, BEFORE, ENTRY_END, HISTORY_END}
 use Rattle.hdl_forms.specs.declared.template.TheConstants.{HOLE}
 
 abbrev pub markup_of : Template → List ℕ
@@ -21,6 +21,8 @@ markup_of templates.None = NONE.now
 markup_of templates.Add = ADD.now
 markup_of templates.AddButton = ADD_BUTTON.now
 markup_of templates.Gone = GONE.now
+markup_of templates.Open = OPEN.now
+markup_of templates.OpenButton = OPEN_BUTTON.now
 markup_of templates.Create = CREATE.now
 markup_of templates.CreateButton = CREATE_BUTTON.now
 markup_of templates.Shown = SHOWN.now

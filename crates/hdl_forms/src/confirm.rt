@@ -49,9 +49,10 @@ fn done_words(draft: &Draft) -> &'static str {
 }
 
 /// The words of the button that makes a change.
-fn button_word(task: Task) -> &'static str {
-    match task {
+fn button_word(draft: &Draft) -> &'static str {
+    match draft.task {
         Task::Change => "Change it",
+        Task::Add if says_gone(draft) => "Say so",
         Task::Add => "Add it",
         Task::Remove => "Remove it",
         Task::Create => "Create it",
@@ -136,7 +137,7 @@ fn key_form(alloc: Global, form: &FilledForm, fault: Fault<'_>) -> Result<FormPa
     let texts = texts.and(&form.name)?.and(fault.at(Field::Top))?;
     let page = FormPage::new(alloc).with(Template::Confirm, texts)?;
     let page = with_keys(alloc, page, fault)?;
-    let button = Texts::new(alloc).and(button_word(draft.task).as_bytes())?;
+    let button = Texts::new(alloc).and(button_word(draft).as_bytes())?;
     page.with(Template::ConfirmButton, button)
 }
 

@@ -5,8 +5,9 @@ ghost use Rattle.std.specs.List.{list_all};
 ghost use Rattle.hdl_value.specs.Reading.{Reads};
 ghost use Rattle.hdl_value_lines.specs.Fields.{is_graphic, is_word};
 ghost use Rattle.hdl_proxy.specs.Query.{texts_of};
-ghost use Rattle.hdl_forms.specs.Draft.{IsAliasUsable, IsDraftFault, IsUrlUsable, IsUsable, are_printed, draft_in, first_named, index_in, index_of, is_alias, is_free, is_open, is_own_type, is_printed, is_remove, is_reserved, is_short, is_type, kind_of, line_in, old_of, open_kind, permissions_of, short_kind, task_named, task_of, text_of, ttl_of, typed, word_in};
+ghost use Rattle.hdl_forms.specs.Draft.{IsAliasUsable, IsDraftFault, IsPlainHandle, IsUrlUsable, IsUsable, are_printed, draft_in, first_named, index_in, index_of, is_alias, is_free, is_open, is_own_type, is_printed, is_remove, is_reserved, is_short, is_type, kind_of, line_in, old_of, open_kind, permissions_of, short_kind, task_named, task_of, text_of, ttl_of, typed, word_in};
 
+use crate::address::is_address;
 use hdl_limits::{DATA_MAX, Octets, TYPE_MAX};
 use hdl_name::is_name;
 use hdl_proxy::{Pair, is_followed};
@@ -302,11 +303,18 @@ fn is_alias(draft: &Draft) -> bool
     !is_remove(draft.task) && draft.kind.as_slice() == HS_ALIAS
 }
 
+/// Whether a text is a handle as it is, without what stands before one where readers paste it.
+fn is_plain_handle(text: &[u8]) -> bool
+    ensures { IsTrue result ↔ IsPlainHandle text.now }
+{
+    is_name(text) && !is_address(text)
+}
+
 /// Whether an alias is a handle.
 fn is_alias_usable(draft: &Draft) -> bool
     ensures { IsTrue result ↔ IsAliasUsable draft.now }
 {
-    !is_alias(draft) || is_name(draft.text.as_slice())
+    !is_alias(draft) || is_plain_handle(draft.text.as_slice())
 }
 
 fn octets(alloc: Global, text: &str) -> Result<Octets, AllocError>

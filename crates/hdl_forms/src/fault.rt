@@ -1,5 +1,8 @@
 //! Faults of forms, each beside its field.
 
+ghost use Rattle.std.specs.Prelude.{◌≡◌};
+ghost use Rattle.hdl_forms.specs.Open.{words_of_name};
+
 use crate::change::TypedFault;
 use crate::draft::DraftFault;
 use hdl_msg::ResponseCode;
@@ -29,6 +32,12 @@ pub(crate) const NO_FAULT: Fault<'static> = Fault {
     field: Field::Top,
     words: "",
 };
+
+const NAME_TOO_LONG: &str = "The name is too long.";
+
+const NAME_NOT_UTF8: &str = "The name isn't UTF-8.";
+
+const NAME_OF_OTHER_FORM: &str = "A handle is a prefix, a slash and a local name, such as 10/a.";
 
 impl Fault<'_> {
     /// What is said at this field.
@@ -75,7 +84,7 @@ pub(crate) fn fault_of_draft(of: DraftFault) -> Option<Fault<'static>> {
         )),
         DraftFault::Alias => Some(fault_at(
             Field::Text,
-            "An alias names another handle: a prefix, a slash and a local name, such as 10/b.",
+            "An alias names another handle: a prefix, a slash and a local name, such as 10/b, without an address or hdl: before it.",
         )),
         DraftFault::Memory => None,
     }
@@ -94,15 +103,19 @@ pub(crate) fn fault_of_key(of: TypedFault) -> Option<Fault<'static>> {
 }
 
 /// What is said of a name that is no handle.
-pub(crate) fn fault_of_name(of: NameFault) -> Fault<'static> {
+pub(crate) fn words_of_name(of: NameFault) -> &'static str
+    ensures { result.now ≡ words_of_name of }
+{
     match of {
-        NameFault::TooLong => fault_at(Field::Handle, "The name is too long."),
-        NameFault::NotUtf8 => fault_at(Field::Handle, "The name isn't UTF-8."),
-        NameFault::NoSlash | NameFault::BadSegment | NameFault::Memory => fault_at(
-            Field::Handle,
-            "A handle is a prefix, a slash and a local name, such as 10/a.",
-        ),
+        NameFault::TooLong => NAME_TOO_LONG,
+        NameFault::NotUtf8 => NAME_NOT_UTF8,
+        NameFault::NoSlash | NameFault::BadSegment | NameFault::Memory => NAME_OF_OTHER_FORM,
     }
+}
+
+/// The same, at the field of a handle.
+pub(crate) fn fault_of_name(of: NameFault) -> Fault<'static> {
+    fault_at(Field::Handle, words_of_name(of))
 }
 
 /// What is said of a name that was pasted with what stands before it in an address.

@@ -10,18 +10,21 @@ use std::alloc::{AllocError, Global};
 /// The fronts of the links.
 const CHANGE: &str = "<p><small><a href=\"?edit\">";
 
+const CHANGE_ANY: &str = "<p><small><a href=\"/?edit\">";
+
 const CREATE: &str = "<p><small><a href=\"/?new\">";
 
 const LIST: &str = "<p><small><a href=\"/?list\">";
 
-/// A form to which a page leads.
+/// The forms to which a page leads.
 #[derive(Clone, Copy, PartialEq, Eq)]
 pub enum FormLink {
     /// That of the handle whose address the page has.
     Change,
-    Create,
+    /// Those of any handle and of a new one.
+    ChangeOrCreate,
     /// The same, and that of lists.
-    CreateOrList,
+    ChangeCreateOrList,
 }
 
 /// Adds a link with this front, whose words are this phrase.
@@ -48,8 +51,12 @@ fn put_form_link(
 {
     match form_link {
         FormLink::Change => put_link(body, language, CHANGE, Phrase::LinkToChange),
-        FormLink::Create => put_link(body, language, CREATE, Phrase::LinkToCreate),
-        FormLink::CreateOrList => {
+        FormLink::ChangeOrCreate => {
+            put_link(body, language, CHANGE_ANY, Phrase::LinkToChangeAny)?;
+            put_link(body, language, CREATE, Phrase::LinkToCreate)
+        }
+        FormLink::ChangeCreateOrList => {
+            put_link(body, language, CHANGE_ANY, Phrase::LinkToChangeAny)?;
             put_link(body, language, CREATE, Phrase::LinkToCreate)?;
             put_link(body, language, LIST, Phrase::LinkToList)
         }
@@ -65,7 +72,7 @@ fn has_form_link(answer: &Answer) -> bool
         && answer.cache_control != CacheControl::Never
 }
 
-/// The answer with a link to this form below it, in this language, if it is a page that others may keep and that isn't an error; and else as it is.
+/// The answer with the links to these forms below it, in this language, if it is a page that others may keep and that isn't an error; and else as it is. Who keeps such a page asks anew each time, since what it shows may be changed here.
 pub fn with_form_link(
     alloc: Global,
     language: Language,
@@ -79,5 +86,9 @@ pub fn with_form_link(
     }
     let mut body = Vec::from_slice(alloc, &answer.body)?;
     put_form_link(&mut body, language, form_link)?;
-    Ok(Answer { body, ..answer })
+    Ok(Answer {
+        body,
+        cache_control: CacheControl::Seconds(0),
+        ..answer
+    })
 }

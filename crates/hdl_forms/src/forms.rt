@@ -1,17 +1,18 @@
 //! From a request of a form to a page, or to an order.
 
-ghost use Rattle.std.specs.Prelude.{◌≡◌, ◌⊎◌, ◌↔◌, ⊤, None, Ok, true, false, codes, option_copied, IfOk, IsSomeAnd, IsTrue};
+ghost use Rattle.std.specs.Prelude.{◌≡◌, ◌⊎◌, ⊤, None, Ok, true, false, codes, option_copied, IfOk, IsSomeAnd};
 ghost use Rattle.hdl_proxy.specs.Query.{texts_of};
 ghost use Rattle.hdl_proxy.specs.declared.answer.Status.{Status};
-ghost use Rattle.hdl_proxy.specs.Url.{Begins};
 ghost use Rattle.hdl_proxy.specs.declared.answer.Status.TheVariants.{Success, Forbidden, Created, BadRequest};
+ghost use Rattle.hdl_forms.specs.Address.{IsAddress};
 ghost use Rattle.hdl_forms.specs.Confirm.{HasWarnings, IsUnclear, done_part, is_unclear};
 ghost use Rattle.hdl_forms.specs.Draft.{draft_in};
 ghost use Rattle.hdl_forms.specs.Origin.{is_same_origin};
 ghost use Rattle.hdl_forms.specs.Pages.{Has, IsFormPage};
-ghost use Rattle.hdl_forms.specs.Taken.{IsAddress, IsOrderOf, IsPlain, IsStep, IsNamed, IsWarned, about, fields_of, page_status, subject_of, text_in};
+ghost use Rattle.hdl_forms.specs.Taken.{IsOrderOf, IsPlain, IsStep, IsNamed, IsWarned, about, fields_of, page_status, subject_of, text_in};
 ghost use Rattle.hdl_forms.specs.Token.{accepts};
 
+use crate::address::is_address;
 use crate::change::{FormOrder, TypedKey, order_of};
 use crate::confirm::{confirm_page, done_page, says_gone};
 use crate::draft::{DraftFault, first_named, read_draft, task_of};
@@ -233,26 +234,6 @@ fn fault_page(
         );
     }
     form_again(alloc, Status::BadRequest, place, pairs, token, fault)
-}
-
-/// Whether a name begins as an address or as an identifier does that a reader pastes.
-fn is_address(name: &[u8]) -> bool
-    ensures { IsTrue result ↔ IsAddress name.now }
-{
-    begins(name, b"http://")
-        || begins(name, b"https://")
-        || begins(name, b"hdl:")
-        || begins(name, b"doi:")
-}
-
-/// Whether a text begins so, in any case of letters.
-fn begins(text: &[u8], front: &[u8]) -> bool
-    ensures { IsTrue result ↔ Begins text.now front.now }
-{
-    match text.split_at_checked(front.len()) {
-        Some((found, _)) => found.eq_ignore_ascii_case(front),
-        None => false,
-    }
 }
 
 /// The handle that a text names, which isn't one as readers paste it.

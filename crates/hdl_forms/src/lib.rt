@@ -2,6 +2,7 @@
 //!
 //! ```text
 //! method, path, query -> form_at -> FormPlace
+//! /?edit: open_at -> open_page: the way to the form of a handle, or the page where one is typed
 //! GET:  form_question, a server's reply -> edit_page; or new_page
 //! POST: the body -> take_form -> FormStep::Page, or FormStep::Order -> carry_form -> a page
 //! /?list: list_at, list_form; POST: the body -> take_list -> ListStep::Page, or ListStep::Order -> carry_list -> a page
@@ -15,7 +16,7 @@
 //! and what they give holds it in the order alone.
 //!
 //! What it promises: `specs/Draft.antt` defines the change that a form says (`draft_in`), `specs/Change.antt` the order that it is, which names that value
-//! alone, and its JSON; `specs/Guarded.antt` that it is carried out only if that value is still as the form showed it ([`carry_form`]); `specs/Token.antt` which tokens are accepted; `specs/Warnings.antt` of what the page warns that asks for the key; `specs/Confirm.antt` that pages lead to a handle's values as the server has them now; `specs/History.antt` that of the values before a change only those are shown that everyone may read ([`with_history`]); and `specs/Template.antt` that a page is markup of this crate with text escaped in its holes.
+//! alone, and its JSON; `specs/Guarded.antt` that it is carried out only if that value is still as the form showed it ([`carry_form`]); `specs/Token.antt` which tokens are accepted; `specs/Warnings.antt` of what the page warns that asks for the key; `specs/Confirm.antt` that pages lead to a handle's values as the server has them now; `specs/Open.antt` to which form what was typed leads ([`open_page`]); `specs/History.antt` that of the values before a change only those are shown that everyone may read ([`with_history`]); and `specs/Template.antt` that a page is markup of this crate with text escaped in its holes.
 //!
 //! ```rust
 //! // crates/hdl_web/src/change_requests.rt
@@ -23,6 +24,7 @@
 //! ```
 #![tactic(auto)]
 
+mod address;
 mod change;
 mod confirm;
 mod draft;
@@ -33,6 +35,7 @@ mod guarded;
 mod history;
 mod lists;
 mod markup;
+mod open;
 mod origin;
 mod pages;
 mod template;
@@ -51,6 +54,7 @@ pub use history::{SHOWN_MOST, with_history};
 pub use lists::{
     LIST_ADDRESS, ListRequest, ListStep, carry_list, list_at, list_form, refused_list, take_list,
 };
+pub use open::{open_at, open_page};
 pub use origin::{Sender, is_same_origin};
 pub use pages::FilledForm;
 pub use token::{FORM_LIFE_SECONDS, TokenKey};

@@ -99,6 +99,15 @@ const GONE: &str = "<h2>Say that it is gone</h2>
 </form>
 ";
 
+/// The form by which that of a handle is opened, up to its field.
+const OPEN: &str = "<h1>Change a handle</h1>
+<form class=\"fields\" action=\"/\" method=\"get\">
+";
+
+const OPEN_BUTTON: &str = "<p class=\"find\"><button>Open its form</button></p>
+</form>
+";
+
 /// The form of a new handle up to its fields: fault; token.
 const CREATE: &str = "<h1>Create a handle</h1>
 <p class=\"fault\" role=\"alert\">$</p>
@@ -110,8 +119,8 @@ const CREATE: &str = "<h1>Create a handle</h1>
 <input type=\"hidden\" name=\"permissions\" value=\"1110\">
 ";
 
-const CREATE_BUTTON: &str =
-    "<p class=\"find\"><button name=\"task\" value=\"create\">Create</button></p>
+const CREATE_BUTTON: &str = "<p><small>Check the name: no form deletes a handle.</small></p>
+<p class=\"find\"><button name=\"task\" value=\"create\">Create</button></p>
 </form>
 ";
 
@@ -169,7 +178,9 @@ const LOOK: &str = "<p><a href=\"$\">Open the handle and look</a></p>
 ";
 
 /// Below a change that was made: the address of the handle's values as they are now, that of its form.
-const DONE: &str = "<p><a href=\"$\">See its values</a></p>
+const DONE: &str =
+    "<p><small>Browsers, yours too, may follow an old address for some minutes more: reload what seems old.</small></p>
+<p><a href=\"$\">See its values</a></p>
 <p><a href=\"$\">Change another value</a></p>
 <p><a href=\"/?new\">Create another handle</a></p>
 ";
@@ -235,7 +246,8 @@ const ROW: &str =
 const GONE_ROW: &str =
     "<li><a href=\"$?noredirect\" target=\"_blank\" rel=\"noopener\" aria-describedby=\"opens\"><bdi>$</bdi></a> is gone<br><small><bdi>$</bdi></small></li>\n";
 
-const NOTHING: &str = "<p class=\"note\" role=\"status\">No handle was found on this page.</p>\n";
+const NOTHING: &str =
+    "<p class=\"note\" role=\"status\">No handle was found. One made after the copy of the table isn't in it: ask your administrator for a newer copy.</p>\n";
 
 /// Below a list.
 const LIST_FOOT: &str = "<p><small>Each handle has the first URL that everyone may read.</small></p>
@@ -283,6 +295,8 @@ pub(crate) enum Template {
     Add,
     AddButton,
     Gone,
+    Open,
+    OpenButton,
     Create,
     CreateButton,
     Shown,
@@ -334,6 +348,8 @@ impl Template {
             Template::Add => ADD,
             Template::AddButton => ADD_BUTTON,
             Template::Gone => GONE,
+            Template::Open => OPEN,
+            Template::OpenButton => OPEN_BUTTON,
             Template::Create => CREATE,
             Template::CreateButton => CREATE_BUTTON,
             Template::Shown => SHOWN,

@@ -1,6 +1,7 @@
 //! The pages with forms. None of them is handed a key.
 
-ghost use Rattle.std.specs.Prelude.{◌≡◌, IfOk};
+ghost use Rattle.std.specs.Prelude.{◌≡◌, ◌++◌, IfOk};
+ghost use Rattle.hdl_forms.specs.Fields.{field_part};
 ghost use Rattle.hdl_forms.specs.Pages.{IsFormPage};
 
 use crate::draft::{Draft, are_printed, is_type};
@@ -67,14 +68,14 @@ pub(crate) fn answer_of(
 
 /// A field that is typed: which, what is said of it, what stands in it, an example, and which keys a telephone shows.
 #[derive(Clone, Copy)]
-struct TypedField<'a> {
-    id: &'a [u8],
-    label: &'a [u8],
-    note: &'a [u8],
-    name: &'static str,
-    value: &'a [u8],
-    placeholder: &'static str,
-    keys: &'static str,
+pub(crate) struct TypedField<'a> {
+    pub(crate) id: &'a [u8],
+    pub(crate) label: &'a [u8],
+    pub(crate) note: &'a [u8],
+    pub(crate) name: &'a [u8],
+    pub(crate) value: &'a [u8],
+    pub(crate) placeholder: &'a [u8],
+    pub(crate) keys: &'a [u8],
 }
 
 /// The text of a value.
@@ -82,28 +83,38 @@ const TEXT: TypedField<'static> = TypedField {
     id: b"text",
     label: b"Value",
     note: b"",
-    name: "text",
+    name: b"text",
     value: b"",
-    placeholder: "",
-    keys: "text",
+    placeholder: b"",
+    keys: b"text",
 };
 
 /// A field, and what is wrong with it.
-fn with_field(
+pub(crate) fn with_field(
     alloc: Global,
     page: FormPage,
     field: TypedField<'_>,
     fault: &[u8],
-) -> Result<FormPage, AllocError> {
+) -> Result<FormPage, AllocError>
+    ensures { IfOk result (λ after. after ≡ page ++ field_part field.entry fault.now) }
+{
     let id = field.id;
-    let texts = Texts::new(alloc)
-        .and(id)?
-        .and(field.label)?
-        .and(field.note)?;
-    let texts = texts.and(id)?.and(field.name.as_bytes())?;
-    let texts = texts.and(field.value)?.and(field.placeholder.as_bytes())?;
-    let texts = texts.and(field.keys.as_bytes())?.and(id)?;
-    let texts = texts.and(id)?.and(fault)?;
+    let texts = Texts::of(
+        alloc,
+        &[
+            id,
+            field.label,
+            field.note,
+            id,
+            field.name,
+            field.value,
+            field.placeholder,
+            field.keys,
+            id,
+            id,
+            fault,
+        ],
+    )?;
     page.with(field_template(fault), texts)
 }
 
@@ -125,8 +136,10 @@ fn with_value(
         id: &id,
         label: fields.kind,
         note: fields.index,
+        name: b"text",
         value: fields.text,
-        ..TEXT
+        placeholder: b"",
+        keys: b"text",
     };
     let page = with_field(alloc, page, text, fault.at(Field::Text))?;
     page.with(Template::ValueButtons, Texts::new(alloc))
@@ -144,7 +157,7 @@ fn with_new_value(
     let kind = TypedField {
         id: b"type",
         label: b"Type, such as URL or EMAIL",
-        name: "type",
+        name: b"type",
         value: fields.kind,
         ..TEXT
     };
@@ -152,9 +165,9 @@ fn with_new_value(
     let index = TypedField {
         id: b"index",
         label: b"Index, a number that no value of the handle has",
-        name: "index",
+        name: b"index",
         value: fields.index,
-        keys: "numeric",
+        keys: b"numeric",
         ..TEXT
     };
     let page = with_field(alloc, page, index, fault.at(Field::Index))?;
@@ -322,16 +335,16 @@ fn create_form(
     let handle = TypedField {
         id: b"handle",
         label: b"Its name: a prefix, a slash and a local name",
-        name: "handle",
+        name: b"handle",
         value: name,
-        placeholder: "10/a",
+        placeholder: b"10/a",
         ..TEXT
     };
     let page = with_field(alloc, page, handle, fault.at(Field::Handle))?;
     let url = TypedField {
         label: b"The address to which it leads",
         value: text,
-        placeholder: "https://example.org/a",
+        placeholder: b"https://example.org/a",
         ..TEXT
     };
     let page = with_field(alloc, page, url, fault.at(Field::Text))?;

@@ -1,6 +1,6 @@
 //! Pages of templates, in whose holes text stands escaped.
 
-ghost use Rattle.std.specs.Prelude.{◌≡◌, ◌∷◌, ◌++◌, [], IfOk, decimal};
+ghost use Rattle.std.specs.Prelude.{◌≡◌, ◌∷◌, ◌++◌, [], IfOk, decimal, map};
 ghost use Rattle.hdl_forms.specs.Template.{filled, markup_of, text_at, IsMade};
 
 use crate::markup::Template;
@@ -27,6 +27,16 @@ impl Texts {
             alloc,
             list: Vec::new(alloc),
         }
+    }
+
+    pub(crate) fn of(alloc: Global, texts: &[&[u8]]) -> Result<Texts, AllocError>
+        ensures { IfOk result (λ made. made.list.items ≡ map (λ text. text.now) texts.now) }
+    {
+        let mut list = Vec::new(alloc);
+        for text in texts {
+            list.push(Octets::new(Vec::from_slice(alloc, text)?))?;
+        }
+        Ok(Texts { alloc, list })
     }
 
     /// These texts and one more.

@@ -82,6 +82,7 @@ words_by phrases.LeadsNowhere language = choose language english.LEADS_NOWHERE.n
 words_by phrases.InACircle language = choose language english.IN_A_CIRCLE.now german.IN_A_CIRCLE.now
 words_by phrases.BeyondTen language = choose language english.BEYOND_TEN.now german.BEYOND_TEN.now
 words_by phrases.LinkToChange language = choose language english.LINK_TO_CHANGE.now german.LINK_TO_CHANGE.now
+words_by phrases.LinkToChangeAny language = choose language english.LINK_TO_CHANGE_ANY.now german.LINK_TO_CHANGE_ANY.now
 words_by phrases.LinkToCreate language = choose language english.LINK_TO_CREATE.now german.LINK_TO_CREATE.now
 words_by phrases.LinkToList language = choose language english.LINK_TO_LIST.now german.LINK_TO_LIST.now
 

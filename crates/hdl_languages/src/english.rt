@@ -171,6 +171,8 @@ pub(crate) const BEYOND_TEN: &str = "Its aliases lead on beyond ten handles:";
 
 pub(crate) const LINK_TO_CHANGE: &str = "Change this handle";
 
+pub(crate) const LINK_TO_CHANGE_ANY: &str = "Change a handle";
+
 pub(crate) const LINK_TO_CREATE: &str = "Create a handle";
 
 pub(crate) const LINK_TO_LIST: &str = "List handles";

@@ -175,6 +175,8 @@ pub(crate) const BEYOND_TEN: &str = "Seine Aliasse führen über zehn Handles hi
 
 pub(crate) const LINK_TO_CHANGE: &str = "Dieses Handle ändern";
 
+pub(crate) const LINK_TO_CHANGE_ANY: &str = "Ein Handle ändern";
+
 pub(crate) const LINK_TO_CREATE: &str = "Ein Handle anlegen";
 
 pub(crate) const LINK_TO_LIST: &str = "Handles auflisten";

@@ -89,6 +89,7 @@ pub enum Phrase {
     BeyondTen,
     // Links to forms, below a page.
     LinkToChange,
+    LinkToChangeAny,
     LinkToCreate,
     LinkToList,
 }
@@ -224,6 +225,10 @@ impl Language {
             Phrase::InACircle => self.choose(english::IN_A_CIRCLE, german::IN_A_CIRCLE),
             Phrase::BeyondTen => self.choose(english::BEYOND_TEN, german::BEYOND_TEN),
             Phrase::LinkToChange => self.choose(english::LINK_TO_CHANGE, german::LINK_TO_CHANGE),
+            Phrase::LinkToChangeAny => self.choose(
+                english::LINK_TO_CHANGE_ANY,
+                german::LINK_TO_CHANGE_ANY,
+            ),
             Phrase::LinkToCreate => self.choose(english::LINK_TO_CREATE, german::LINK_TO_CREATE),
             Phrase::LinkToList => self.choose(english::LINK_TO_LIST, german::LINK_TO_LIST),
         }

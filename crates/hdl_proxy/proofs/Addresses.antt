@@ -54,6 +54,10 @@ pub word_graphic : All IsGraphic (codes "?noredirect")
 unfolding percent_encode should_percent_encode
 word_graphic = All-cons IsGraphic 63 (codes "noredirect") (omega arith, omega arith) (graphic IN_PATH path_covers (codes "noredirect"))
 
+pub form_word_graphic : All IsGraphic (codes "?edit")
+unfolding percent_encode should_percent_encode
+form_word_graphic = All-cons IsGraphic 63 (codes "edit") (omega arith, omega arith) (graphic IN_PATH path_covers (codes "edit"))
+
 -- nor for letters and slashes
 pub api_graphic : All IsGraphic (codes "/api/handles")
 unfolding percent_encode should_percent_encode

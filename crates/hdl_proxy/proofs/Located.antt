@@ -6,7 +6,7 @@ use Rattle.std.proofs.lemmas.List.Elements.{All-append, All-cons}
 use Rattle.hdl_languages.specs.declared.language.Language.{Language}
 use Rattle.hdl_value.specs.declared.value.Value.{Value}
 use Rattle.hdl_proxy.specs.Answer.{LeadsTo, Tells, IsLocated, IsWayAt, IsWayBy, IsWayFrom, IsWayOf, IsWayOfValue, IsWayToMeant, Follows, FollowsUnless, Goes, ShowsValues, ShowsFound}
-use Rattle.hdl_proxy.specs.Link.{IsLink, address_of, path_to, path_to_json, path_to_values}
+use Rattle.hdl_proxy.specs.Link.{IsLink, address_of, path_to, path_to_form, path_to_json, path_to_values}
 use Rattle.hdl_proxy.specs.Status.{status_of_code}
 use Rattle.hdl_proxy.specs.Url.{IsGraphic, extend}
 use Rattle.hdl_proxy.specs.declared.answer.Answer.{Answer}
@@ -20,7 +20,7 @@ use Rattle.std.specs.Borrow.{Bor}
 use Rattle.hdl_proxy.specs.declared.found.Found.TheVariants.{Values, Refused, Nothing}
 use Rattle.hdl_proxy.specs.declared.question.AnswerFormat.{AnswerFormat}
 use Rattle.hdl_proxy.specs.declared.question.AnswerFormat.TheVariants.{Follow, Page, Json, Pretty}
-use Rattle.hdl_proxy.proofs.Addresses.{api_graphic, graphic, location_covers, path_covers, slash_graphic, word_graphic}
+use Rattle.hdl_proxy.proofs.Addresses.{api_graphic, form_word_graphic, graphic, location_covers, path_covers, slash_graphic, word_graphic}
 
 -- ---- links are graphic ASCII
 
@@ -33,6 +33,9 @@ path_graphic name = All-cons IsGraphic 47 _ slash_graphic (graphic _ path_covers
 pub values_path_graphic : (name : List ℕ) → All IsGraphic (path_to_values name)
 values_path_graphic name = All-append IsGraphic (path_to name) (codes "?noredirect") (path_graphic name) word_graphic
 
+pub form_path_graphic : (name : List ℕ) → All IsGraphic (path_to_form name)
+form_path_graphic name = All-append IsGraphic (path_to name) (codes "?edit") (path_graphic name) form_word_graphic
+
 pub json_path_graphic : (name : List ℕ) → All IsGraphic (path_to_json name)
 json_path_graphic name = All-append IsGraphic (codes "/api/handles") (path_to name) api_graphic (path_graphic name)
 
@@ -40,7 +43,8 @@ pub link_graphic : (to : List ℕ) → IsLink to → All IsGraphic to
 link_graphic to (inl w) = subst (All IsGraphic) (sym w.1.1) (address_graphic w.0)
 link_graphic to (inr (inl w)) = subst (All IsGraphic) (sym w.1.1) (path_graphic w.0)
 link_graphic to (inr (inr (inl w))) = subst (All IsGraphic) (sym w.1.1) (values_path_graphic w.0)
-link_graphic to (inr (inr (inr w))) = subst (All IsGraphic) (sym w.1.1) (json_path_graphic w.0)
+link_graphic to (inr (inr (inr (inl w)))) = subst (All IsGraphic) (sym w.1.1) (form_path_graphic w.0)
+link_graphic to (inr (inr (inr (inr w)))) = subst (All IsGraphic) (sym w.1.1) (json_path_graphic w.0)
 
 -- ---- answers
 

@@ -13,7 +13,7 @@ use Rattle.hdl_languages.specs.declared.phrase.Phrase.TheVariants as phrases
 use Rattle.hdl_proxy.specs.Answer.{LeadsTo, Refuses, Tells, IsLocated, is_json}
 use Rattle.hdl_proxy.specs.Format.{language_of}
 use Rattle.hdl_proxy.specs.Link.{path_to}
-use Rattle.hdl_proxy.specs.Pasted.{IsPasted, IsWritten, between_spaces}
+use Rattle.hdl_proxy.specs.Pasted.{IsPastedName, IsWritten, between_spaces}
 use Rattle.hdl_proxy.specs.Query.{IsAppended, IsIndex, IsLast, IsLocatt, has_pair, index_of, values_named}
 use Rattle.hdl_proxy.specs.declared.answer.Answer.{Answer as Reply}
 use Rattle.hdl_proxy.specs.declared.answer.CacheControl.{CacheControl}
@@ -77,9 +77,9 @@ LeadsToName language name answer =
     (IsHandle name × LeadsTo name (path_to name) answer × (answer.cache_control ≡ Never))
     ⊎ (¬ (IsHandle name) × RefusesName (Page language) name answer)
 
--- the way to the name that was pasted at a site with this address; spaces at its ends, and at those of all that was pasted, don't count
+-- the way to the name that was pasted at a site with this address
 abbrev pub LeadsFromPasted : Language → Option (List ℕ) → List ℕ → Reply → Type 0
-LeadsFromPasted language own sent answer = (name : List ℕ) × (IsPasted own (between_spaces sent) name × LeadsToName language (between_spaces name) answer)
+LeadsFromPasted language own sent answer = (name : List ℕ) × (IsPastedName own sent name × LeadsToName language name answer)
 
 -- without a handle a page, and with one the way to it
 abbrev pub LeadsFrom : Language → Option (List ℕ) → Option (List ℕ) → Reply → Type 0

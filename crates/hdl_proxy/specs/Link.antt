@@ -21,16 +21,21 @@ path_to name = 47 ∷ percent_encode IN_PATH name
 abbrev pub path_to_values : List ℕ → List ℕ
 path_to_values name = path_to name ++ codes "?noredirect"
 
+-- the path of the form by which it is changed
+abbrev pub path_to_form : List ℕ → List ℕ
+path_to_form name = path_to name ++ codes "?edit"
+
 -- the path of its own values as JSON
 abbrev pub path_to_json : List ℕ → List ℕ
 path_to_json name = codes "/api/handles" ++ path_to name
 
--- the address of a URL that is followed, or the path of a handle or of its own values, as a page or as JSON
+-- the address of a URL that is followed, or the path of a handle, of its form or of its own values, as a page or as JSON
 abbrev pub IsLink : List ℕ → Type 0
 IsLink to =
     ((url : List ℕ) × (IsFollowed url × (to ≡ address_of url)))
     ⊎ ((name : List ℕ) × (IsHandle name × (to ≡ path_to name)))
     ⊎ ((name : List ℕ) × (IsHandle name × (to ≡ path_to_values name)))
+    ⊎ ((name : List ℕ) × (IsHandle name × (to ≡ path_to_form name)))
     ⊎ ((name : List ℕ) × (IsHandle name × (to ≡ path_to_json name)))
 
 -- the way to this URL: its address, and none just where it isn't followed

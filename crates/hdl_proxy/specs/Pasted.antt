@@ -54,3 +54,7 @@ IsPasted own text name =
     IsBehindScheme text name
     ⊎ ((rest : List ℕ) × (IsBehindService own text rest × (name ≡ percent_decode rest)))
     ⊎ (Lacks (IsBehindScheme text) × Lacks (IsBehindService own text) × (name ≡ text))
+
+-- the same, where spaces at the ends of the name, and at those of all that was pasted, don't count
+abbrev pub IsPastedName : Option (List ℕ) → List ℕ → List ℕ → Type 0
+IsPastedName own sent name = (part : List ℕ) × (IsPasted own (between_spaces sent) part × (name ≡ between_spaces part))

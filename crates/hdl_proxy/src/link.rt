@@ -1,7 +1,7 @@
 //! Where a page or a Location may lead.
 
 ghost use Rattle.std.specs.Prelude.{◌≡◌, IfOk, All, string_bytes};
-ghost use Rattle.hdl_proxy.specs.Link.{IsLink, IsWayTo, path_to, path_to_json, path_to_values};
+ghost use Rattle.hdl_proxy.specs.Link.{IsLink, IsWayTo, path_to, path_to_form, path_to_json, path_to_values};
 ghost use Rattle.hdl_proxy.specs.Url.{IsGraphic};
 
 use crate::url::{address, is_followed, path_of};
@@ -9,7 +9,7 @@ use hdl_name::Name;
 use std::alloc::{AllocError, Global};
 use std::marker::Model;
 
-/// What a link leads to: the address of a URL that is followed, a handle's own path, or its own values, as a page or as JSON. There is no other
+/// What a link leads to: the address of a URL that is followed, a handle's own path, its form, or its own values, as a page or as JSON. There is no other
 /// way to make one, so no text of a value or of a request leads anywhere by itself.
 ///
 /// Contracts see its octets.
@@ -55,6 +55,15 @@ impl Link {
     {
         let mut text = path_of(alloc, name.sent())?;
         text.push_str("?noredirect")?;
+        Ok(Link { text })
+    }
+
+    /// The way to the form by which a handle is changed.
+    pub(crate) fn to_form(alloc: Global, name: &Name) -> Result<Link, AllocError>
+        ensures { IfOk result (λ to. to ≡ path_to_form name.now) }
+    {
+        let mut text = path_of(alloc, name.sent())?;
+        text.push_str("?edit")?;
         Ok(Link { text })
     }
 

@@ -1,7 +1,7 @@
 //! Names as people paste them: with a scheme, or with the address of a proxy in front.
 
 ghost use Rattle.std.specs.Prelude.{◌≡◌, IfOk, MatchOption, option_copied};
-ghost use Rattle.hdl_proxy.specs.Pasted.{IsBehind, IsBehindAddress, IsBehindDoi, IsBehindEither, IsBehindOwn, IsBehindScheme, IsBehindService, IsPasted, IsWritten, Lacks, between_spaces};
+ghost use Rattle.hdl_proxy.specs.Pasted.{IsBehind, IsBehindAddress, IsBehindDoi, IsBehindEither, IsBehindOwn, IsBehindScheme, IsBehindService, IsPasted, IsPastedName, IsWritten, Lacks, between_spaces};
 
 use crate::names::decode;
 use std::alloc::{AllocError, Global};
@@ -100,11 +100,7 @@ pub(crate) fn name_within(text: &[u8]) -> &[u8]
 
 /// The name in a text that was pasted: what follows a scheme; of the address of this site or of a proxy the rest, its escapes read once; or where it has
 /// neither all of it.
-pub(crate) fn pasted_name(
-    alloc: Global,
-    text: &[u8],
-    own: Option<&str>,
-) -> Result<Vec<u8>, AllocError>
+fn pasted_part(alloc: Global, text: &[u8], own: Option<&str>) -> Result<Vec<u8>, AllocError>
     ensures { IfOk result (λ name. IsPasted (option_copied own.entry) text.now name.items) }
 {
     if let Some(rest) = behind_scheme(text) {
@@ -114,4 +110,12 @@ pub(crate) fn pasted_name(
         Some(rest) => decode(alloc, rest),
         None => Vec::from_slice(alloc, text),
     }
+}
+
+/// The name in a text that was pasted at the site of this address, if it has one. Spaces at its ends, and at those of all that was pasted, don't count. It need be no handle.
+pub fn pasted_name(alloc: Global, own: Option<&str>, sent: &str) -> Result<Vec<u8>, AllocError>
+    ensures { IfOk result (λ name. IsPastedName (option_copied own.entry) sent.now name.items) }
+{
+    let part = pasted_part(alloc, between_spaces(sent.as_bytes()), own)?;
+    Vec::from_slice(alloc, between_spaces(&part))
 }

@@ -1,10 +1,12 @@
 //! From a request of HTTP to a question, and from its reply to an answer.
 
 ghost use Rattle.std.specs.Prelude.{◌≡◌, ◌≢◌, IfOk, codes, option_copied, string_bytes};
-ghost use Rattle.hdl_proxy.specs.Answer.{Answers, Follows, Goes, IsLocated, Refuses, ShowsFound, ShowsValues, is_json};
+ghost use Rattle.hdl_proxy.specs.Answer.{Answers, Follows, Goes, IsLocated, LeadsTo, Refuses, ShowsFound, ShowsValues, is_json};
 ghost use Rattle.hdl_proxy.specs.Begin.{AsksAddress, AsksFor, IsAnswered, IsBare, IsFile, IsFront, IsLocatedIfAnswered, IsNoHandle, IsOfFile, IsOfHandle, IsOwn, IsReading, LeadsFromPasted, LeadsToName, RefusesMethod, RefusesMethodIn, RefusesRequest, asked_text, fault_sentence, first_cache_control, follows_aliases, is_called_back, json_form, page_form, without_slash};
+ghost use Rattle.hdl_proxy.specs.Link.{path_to_form};
 ghost use Rattle.hdl_proxy.specs.Query.{pairs_of, texts_of};
 ghost use Rattle.hdl_proxy.specs.Status.{refused_words};
+ghost use Rattle.hdl_proxy.specs.declared.answer.CacheControl.TheVariants.{Never};
 
 use crate::answer::{Answer, CacheControl, Media, Status, reported_code};
 use crate::cache_control::{DAY_SECONDS, cache_control_of};
@@ -75,8 +77,18 @@ fn lead_from(
     ensures leads { IfOk result (LeadsFromPasted language (option_copied own.entry) sent.now) }
     ensures located { IfOk result IsLocated }
 {
-    let name = pasted_name(alloc, between_spaces(sent.as_bytes()), own)?;
-    lead(alloc, language, between_spaces(&name))
+    let name = pasted_name(alloc, own, sent)?;
+    lead(alloc, language, &name)
+}
+
+/// The way to the form by which a handle is changed, which nobody may keep.
+pub fn lead_to_form(alloc: Global, name: &Name) -> Result<Answer, AllocError>
+    ensures leads { IfOk result (LeadsTo name.now (path_to_form name.now)) }
+    ensures kept { IfOk result (λ answer. answer.cache_control ≡ Never) }
+    ensures located { IfOk result IsLocated }
+{
+    let to = Link::to_form(alloc, name)?;
+    pages::redirect(alloc, name.sent(), to, CacheControl::Never)
 }
 
 /// The way to a handle's own address.

@@ -11,7 +11,7 @@ use crate::text::{ProxyText, TextKind};
 use bytes::Bytes;
 use hdl_forms::{
     FormLink, FormPlace, LIST_ADDRESS, ListRequest, Sender, form_at, form_question, list_at,
-    list_form, new_page, refuse_cross_origin,
+    list_form, new_page, open_at, open_page, refuse_cross_origin,
 };
 use hdl_languages::{Language, preferred_language};
 use hdl_proxy::{Next, begin};
@@ -82,11 +82,11 @@ fn sender_of<B>(req: &Request<B>) -> Sender<'_> {
     }
 }
 
-/// The form to which a page leads that has this address; also that of lists, if there are any.
+/// The forms to which a page leads that has this address; also that of lists, if there are any.
 fn form_link_at(path: &str, has_lists: bool) -> FormLink {
     match path {
-        "/" if has_lists => FormLink::CreateOrList,
-        "/" => FormLink::Create,
+        "/" if has_lists => FormLink::ChangeCreateOrList,
+        "/" => FormLink::ChangeOrCreate,
         _ => FormLink::Change,
     }
 }
@@ -124,7 +124,10 @@ impl<R: Wait + Clock + Copy + Drop> ProxyService<R> {
     /// The language of the pages that answer a request: that of all pages, or the one that it prefers. Forms and lists are in English.
     fn language_of<B>(&self, req: &Request<B>) -> Result<LanguageChoice, AllocError> {
         let sent = first_line(req);
-        if self.form_of(sent)?.is_some() || self.list_of(sent)?.is_some() {
+        let is_form = self.form_of(sent)?.is_some()
+            || self.list_of(sent)?.is_some()
+            || self.typed_in(sent)?.is_some();
+        if is_form {
             return Ok(LanguageChoice::fixed(Language::English));
         }
         match self.shared.language {
@@ -237,6 +240,15 @@ impl<R: Wait + Clock + Copy + Drop> ProxyService<R> {
         }
     }
 
+    /// What is typed in the address of a request for a handle's form, where handles are changed.
+    fn typed_in(&self, sent: SentRequest<'_>) -> Result<Option<String>, AllocError> {
+        if self.shared.writes && matches!(sent.method, "GET" | "HEAD") {
+            open_at(self.alloc, sent.path, sent.query)
+        } else {
+            Ok(None)
+        }
+    }
+
     /// The list that a request is for, where there are any.
     fn list_of(&self, sent: SentRequest<'_>) -> Result<Option<ListRequest>, AllocError> {
         if self.shared.copied.is_some() {
@@ -306,8 +318,14 @@ impl<R: Wait + Clock + Copy + Drop> ProxyService<R> {
         if let Some(request) = self.list_of(sent)? {
             return self.start_list(req, request);
         }
-        match self.form_of(sent)? {
-            Some(place) => self.start_form(req, place),
+        if let Some(place) = self.form_of(sent)? {
+            return self.start_form(req, place);
+        }
+        match self.typed_in(sent)? {
+            Some(typed) => {
+                let own = self.shared.site.address();
+                Ok(Start::Progress(Progress::Answered(open_page(self.alloc, own, &typed))))
+            }
             None => self.begin(language, sent),
         }
     }

@@ -5,4 +5,4 @@ use Rattle.hdl_proxy.proofs.link.Link.to_json.Goals as goal
 pub invariant_of-result : goal.invariant_of-result
 invariant_of-result c =
     let spelt : string_bytes c.push_str.new.self ≡ path_to_json c.args.name.now = search rules in
-    inr (inr (inr (c.args.name.now, (c.sent.ensures.handle, spelt))))
+    inr (inr (inr (inr (c.args.name.now, (c.sent.ensures.handle, spelt)))))
