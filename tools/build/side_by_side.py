@@ -59,6 +59,9 @@ def main():
             while whole.poll() is None:
                 paused = balance(proofs(whole.pid), paused, lanes.free())
                 time.sleep(EVERY)
+        except KeyboardInterrupt:
+            # `rt ci` hears it too, and ends what it began
+            pass
         finally:
             for number in paused:
                 send(number, signal.SIGCONT)
