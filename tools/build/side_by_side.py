@@ -1,7 +1,7 @@
 """side_by_side.py: runs `rt ci` with as many proofs side by side as there are processors, and pauses the youngest ones while memory is short. Its status is that of `rt ci`.
 
 By itself `rt ci` reckons with about twice the memory that most proofs take, and so leaves processors idle. RT_JOBS has it begin as many at a time, whatever they take: most take 2 GB, the
-greatest 8. What is paused goes on once others have ended."""
+greatest more than 7. What is paused goes on once others have ended."""
 
 import os
 import signal
