@@ -177,10 +177,22 @@ def start_nsd(folder, values):
     return Server(process, port, query, answer, 1.0)
 
 
+def start_echo(program, kind):
+    """bench/echo.c, which looks nothing up; `datagrams` takes and gives many by one call."""
+    (port,) = servers.free_ports(1)
+    process = subprocess.Popen([program, kind, str(port), request(0).hex(), reply(0).hex()])
+    time.sleep(0.2)
+    return Server(process, port, request(0), reply(0), 0.2)
+
+
+def built(folder, name):
+    program = os.path.join(folder, name)
+    subprocess.run(["cc", "-O2", "-o", program, os.path.join(HERE, name + ".c")], check=True)
+    return program
+
+
 def built_load(folder):
-    load = os.path.join(folder, "load")
-    subprocess.run(["cc", "-O2", "-o", load, os.path.join(HERE, "load.c")], check=True)
-    return load
+    return built(folder, "load")
 
 
 def load_words(load, server, case, seconds, values, choice):

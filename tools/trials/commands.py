@@ -243,7 +243,7 @@ CONTROL_SAID = ["line 1: RESOLVE 10/\\u{1b}[2J: 100 handle not found", "0 succee
 SERVERS = (
     ("it is done", [DONE], 0, ""),
     ("another code", [wire.frame(reply(wire.DELETE, 302, wire.reference(b"0.NA/10", 0)), 0, 1)], 1, "hdl: 302 service referral: this port doesn't serve the prefix: name its publisher's port by --server"),
-    ("busy", [wire.frame(wire.short_reply(3), 0, 1)], 1, "hdl: 3 server busy: nothing was done: try again; if it stays so, the space of this prefix there may be full: ask its operator"),
+    ("busy", [wire.frame(wire.short_reply(3), 0, 1)], 1, "hdl: 3 server busy: nothing was done: try again; if it stays so, the server's disk or memory may be full, or what this prefix may hold there: ask its operator"),
     ("it closes at once", [], 3, CLOSED + MAYBE),
     ("it closes in the middle of an envelope", [DONE[:11]], 3, CLOSED + MAYBE),
     ("it closes in the middle of a message", [DONE[:-1]], 3, CLOSED + MAYBE),
@@ -494,7 +494,7 @@ tenants: line 27: write: site NAME HEX, with single spaces; hdl site makes such 
 TEXT_HAS = """\
 acme: port 2641, 7 lanes for connections; prefixes 10
 bolt: port 2642, 3 lanes for connections; prefixes 20
-12 of 64 lanes, 6 values
+12 of 64 lanes, 8 values
 """
 SITE_TEXT = "publisher net 2 %d handle-net\nsite net 0001\n"
 SITE_HAS = "net: port %d (handle-net), 1 lanes for connections, 2 octets of site information; prefixes\n2 of 64 lanes, 0 values\n"

@@ -3,13 +3,15 @@
 First histories are typed by hand, line by line as docs/FILE.md has them: what is printed of them, whole, cut at each octet of the last line, and with each field damaged. Then changes of a server, whose
 lines are typed with the moments that its replies tell: each operation is undone, dry and for good, and what stands is compared with what stood before; each refusal is told and changes nothing. Last a
 server with --history writes the lines, in memory and with a table: they are compared with what was changed, the file is for its owner alone, no key's data is in it, all lines are there after `handled
-stop`, `handled reopen` begins it anew, and `hdl undo` undoes each change by them. Its last line is 'N passed, M failed', a case counting one."""
+stop`, `handled reopen` begins it anew, what a crash or a full disk leaves of a line is no change, and `hdl undo` undoes each change by them. Its last line is 'N passed, M failed', a case counting one."""
 
 import contextlib
 import datetime
 import itertools
 import os
 import re
+import resource
+import signal
 import struct
 import subprocess
 import sys
@@ -24,6 +26,8 @@ PROGRAM = os.environ.get("HDL", repository.program("hdl"))
 SECRET, DATA = b"never-shown", b"data-of-a-key"
 KEY = "300:0.NA/10"
 OPEN, KEPT = 0x0E, 0x0C
+# The octets after which a history finds no room: within the line of a change.
+FULL = 3400
 # Seconds within which a change has its line, beside other programs.
 SOON = 10 * servers.SLOWER
 
@@ -418,15 +422,50 @@ def served(folder, options):
     process.wait(60 * servers.SLOWER)
     process.stdout.close()
     yield "all lines after a stop", [one.split("\t")[2] for one in lines_of(path)[1:]] == ["10/last%d" % number for number in range(50)]
+    whole = lines_of(path)
+    with open(path, "a", encoding="utf-8") as file:
+        file.write("1764540000000\tmodify\t10/last0\t%s\t1\t1 URL 864" % KEY)
     process, _ = servers.serve(tenants, 2, options=["--history", path, *options])
     servers.end(process)
-    yield "a start appends", len(lines_of(path)) == 51
+    yield "a start takes off what a crash left of a line", lines_of(path) == whole and len(whole) == 51
+
+
+def bounded():
+    """Lets no file of a server grow beyond this, as a full disk does."""
+    signal.signal(signal.SIGXFSZ, signal.SIG_IGN)
+    resource.setrlimit(resource.RLIMIT_FSIZE, (FULL, resource.RLIM_INFINITY))
+
+
+def full(folder):
+    """What a full disk leaves of a line is no change, and lines go on once there is room."""
+    path = os.path.join(folder, "changes.history")
+    process, (acme, _) = servers.serve(tenants, 2, options=["--history", path], preexec_fn=bounded, stderr=subprocess.DEVNULL)
+    texts = ["https://example.org/%d/%s" % (number, "x" * 700) for number in range(8)]
+    with Server(acme) as server:
+        for number, text in enumerate(texts):
+            server.change("create", "10/full%d" % number, [administrator(), url(1, text)])
+        for number in range(len(texts)):
+            server.change("modify", "10/full%d" % number, [url(1, "https://example.org/new")])
+        time.sleep(1 * servers.SLOWER)
+        is_full = os.path.getsize(path) == FULL
+        resource.prlimit(process.pid, resource.RLIMIT_FSIZE, (resource.RLIM_INFINITY, resource.RLIM_INFINITY))
+        server.change("create", "10/room", [administrator()])
+        until = time.monotonic() + SOON
+        while time.monotonic() < until and "10/room" not in (lines_of(path) or [""])[-1]:
+            time.sleep(0.02)
+    servers.end(process)
+    fields = [line.rstrip("\n").split("\t") for line in lines_of(path)]
+    changed = [(one[2], one[5:]) for one in fields if one[1] == "modify"]
+    are_whole = all(any(handle == "10/full%d" % number and before[0].endswith(" " + text) for number, text in enumerate(texts)) for handle, before in changed)
+    yield "a full disk leaves whole lines", is_full and 0 < len(changed) < len(texts) and are_whole and fields[-1][2] == "10/room"
 
 
 def of_servers():
     if b"--history" not in subprocess.run([servers.HANDLED, "serve", "--help"], capture_output=True, check=False).stdout:
         yield "handled serve --history", False
         return
+    with tempfile.TemporaryDirectory() as folder:
+        yield from full(folder)
     for options in ((), ("--table", "handles.db")):
         with tempfile.TemporaryDirectory() as folder:
             for name, holds in served(folder, [os.path.join(folder, word) if word.endswith(".db") else word for word in options]):

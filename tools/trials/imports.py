@@ -568,7 +568,7 @@ def busy():
         rows = b"handle,type,data,ttl\n" + b"".join(b"10/busy%d,NOTE,a,1\n" % number for number in range(1500))
         status, out, err = run(listener.getsockname()[1], rows)
         thread.join(10)
-    said = "hdl: the server takes no changes now, or the space of this prefix there is full: ask its operator; later rows were not tried; start again with the same file: handles that exist with these values count as done\n"
+    said = "hdl: the server takes no changes now: its disk or memory may be full, or what this prefix may hold there: ask its operator; later rows were not tried; start again with the same file: handles that exist with these values count as done\n"
     yield "a server that stays busy", (status, got, err) == (1, [wire.CREATE] * 10, said) and out.endswith("\n0 created, 0 there already, 10 failed\n")
 
 

@@ -34,6 +34,8 @@ ALERTS = (
     ("HandleProxyDown", 'up{job="hdl_proxy"}', "0", "1"),
     ("HandleTableShut", "handled_table_shut", "1", "0"),
     ("HandleTableShrank", "handled_table_file_bytes", "1000x10 100x20", "1000x10 900x20"),
+    ("HandleCopyOld", "handled_copy_timestamp_seconds", "-200000", "0"),
+    ("HandleCopyFailed", "handled_copy_exit_status", "4", "0"),
     ("HandleClusterDown", "handled_cluster_up", "0", "1"),
     ("HandleTableFailing", "handled_table_failing", "1", "0"),
     ("HandleMemoryShort", "handled_memory_short", "1", "0"),
@@ -51,6 +53,9 @@ ALERTS = (
 )
 # What no server but one of a cluster tells.
 OF_CLUSTERS = {"handled_cluster_up"}
+# What node_exporter tells of copies, and where copy-table writes it.
+TOLD = re.compile(r"^# TYPE (\w+) gauge$", re.MULTILINE)
+NODE_EXPORTER = "127.0.0.1:9100"
 # What stands beside each of them.
 ALWAYS = (("handled_commit_seconds_count", "+10"), ('handled_bound_values{publisher="a"}', "1000"), ('hdl_proxy_server_asked_total{server="s"}', "+100"), ('hdl_proxy_answers_total{kind="redirect",code="302"}', "+100"))
 
@@ -116,8 +121,8 @@ def options():
 
 
 def metrics():
-    """Each metric that the programs print, and all labels that they give any."""
-    known, labels = set(OWN_METRICS), set(OWN_LABELS)
+    """Each metric that the programs and copy-table print, and all labels that they give any."""
+    known, labels = OWN_METRICS | set(TOLD.findall(text_of("copy-table"))), set(OWN_LABELS)
     for path in glob.glob(repository.path("crates", "*", "src", "*.rt")):
         text = repository.text_of(path)
         for name, rest in re.findall(r"# TYPE (\w+)(\{name\})?", text):
@@ -223,10 +228,12 @@ def agrees():
     log, visits = (value_of(words, "--log") for words in (serve, proxy))
     yield "what is rotated are the logs, and the history beside the server's", rotated == [[log, log.replace(".log", ".history")], [visits]]
     yield "the server that opens its log anew is the one that runs", re.findall(r"handled reopen --control (\S+)", text_of("logrotate")) == [value_of(serve, "--control")]
-    yield "what is scraped are the status pages", re.findall(r"targets: \['(.*?)'\]", text_of("prometheus.yml")) == [status, listen]
+    yield "what is scraped are the status pages, and what tells of copies", re.findall(r"targets: \['(.*?)'\]", text_of("prometheus.yml")) == [status, listen, NODE_EXPORTER]
     jobs = re.findall(r"job_name: (\w+)", text_of("prometheus.yml"))
     asked = {job for text in (text_of("rules.yml"), text_of("board.json")) for found in re.findall(r'job=~?\\?"([\w|]+)', text) for job in found.split("|")}
-    yield "the jobs are those of rules and board", asked == set(jobs)
+    yield "the jobs are those of rules and board", asked | {"node"} == set(jobs)
+    told = os.path.dirname(copying[4])
+    yield "the service of copies may write what is told of them", re.findall(r"^ReadWritePaths=-(.*)$", text_of("handled-copy.service"), re.MULTILINE) == [told]
     yield "nginx is before the proxy", "server %s;" % listen in text_of("nginx.conf")
     yield "HAProxy is before the server", "server handled %s maxconn 1000 check port %s " % (server, status.partition(":")[2]) in text_of("haproxy.cfg")
     for name, folders in (("handled.service", {"State": "lib", "Logs": "log"}), ("hdl-proxy.service", {"Logs": "log"}), ("handled-copy.service", {"State": "lib"})):
@@ -252,9 +259,9 @@ esac
 """
 
 
-def copied(folder, kept, text=b"", status=0):
+def copied(folder, kept, text=b"", status=0, told=()):
     """Runs copy-table over a folder of copies, with the `handled` of a folder, and answers its exit status and what is there then."""
-    words = [repository.path("packaging", "copy-table"), os.path.join(folder, "handles.db"), kept, "14"]
+    words = [repository.path("packaging", "copy-table"), os.path.join(folder, "handles.db"), kept, "14", *told]
     environment = dict(os.environ, PATH=folder + ":" + os.environ["PATH"], STATUS=str(status))
     done = subprocess.run(words, input=text, env=environment, check=False, timeout=60 * servers.SLOWER)
     return done.returncode, sorted(os.listdir(kept))
@@ -283,6 +290,39 @@ def keeps_copies():
         time.sleep(1.1)
         status, there = copied(folder, kept)
         yield "a copy that is far smaller than the last one removes none", status == 6 and len(there) == 4
+
+
+def tells():
+    """What node_exporter reads of copies."""
+    with tempfile.TemporaryDirectory() as folder:
+        os.chmod(front_servers.put(folder, "handled", STUB), 0o755)
+        front_servers.put(folder, "handles.db", TABLE)
+        kept, room = os.path.join(folder, "copies"), os.path.join(folder, "room")
+        os.mkdir(kept)
+        told = os.path.join(room, "handled-copy.prom")
+        status, there = copied(folder, kept, told=(told,))
+        yield "without node_exporter's folder nothing is told", status == 0 and len(there) == 1 and not os.path.exists(room)
+        os.mkdir(room)
+
+        def values():
+            return [line.split() for line in repository.text_of(told).splitlines() if not line.startswith("#")]
+
+        first = os.path.join(kept, there[0])
+        os.utime(first, (1_000_000_000, 1_000_000_000))
+        status, _ = copied(folder, kept, status=4, told=(told,))
+        yield "a failed copy is told, and when the newest good one was made", status == 4 and values() == [["handled_copy_exit_status", "4"], ["handled_copy_timestamp_seconds", "1000000000"]]
+        os.remove(first)
+        status, _ = copied(folder, kept, status=4, told=(told,))
+        yield "that there is no copy is told", status == 4 and values()[1][1] == "0"
+        before = time.time()
+        status, _ = copied(folder, kept, told=(told,))
+        yield "a good copy is told", status == 0 and values()[0][1] == "0" and before - 2 <= int(values()[1][1]) <= time.time()
+        yield "each user may read it, and nothing else is left", os.stat(told).st_mode & 0o777 == 0o644 and os.listdir(room) == ["handled-copy.prom"]
+        yield "it tells what the rules ask for", {name for name, _ in values()} == set(TOLD.findall(text_of("copy-table")))
+        program = front_servers.found("promtool")
+        if program:
+            with open(told, "rb") as metrics:
+                yield "promtool check metrics", subprocess.run([program, "check", "metrics"], stdin=metrics, capture_output=True, check=False, timeout=60).returncode == 0
 
 
 # The command lines of the units
@@ -328,7 +368,7 @@ def serves():
         text = servers.example(*ports)
         yield "handled.service serves", words[:2] == [servers.HANDLED, "serve"]
         yield "its status page", page_of(status, "/health") == ["ok"]
-        yield "it has the metrics that are asked of it", asked_of("handled_") - OF_CLUSTERS <= printed(page_of(status, "/metrics"))
+        yield "it has the metrics that are asked of it", asked_of("handled_") - OF_CLUSTERS - set(TOLD.findall(text_of("copy-table"))) <= printed(page_of(status, "/metrics"))
         yield "its log", os.path.exists(folder + "/changes.log")
         kept = os.path.join(folder, "copies")
         os.mkdir(kept)
@@ -445,7 +485,7 @@ def in_front():
 
 
 def main():
-    parts = (options, has_metrics, statuses, agrees, keeps_copies, serves, leads, systemd, prometheus, logrotate, in_front)
+    parts = (options, has_metrics, statuses, agrees, keeps_copies, tells, serves, leads, systemd, prometheus, logrotate, in_front)
     return servers.tally(case for part in parts for case in part())
 
 

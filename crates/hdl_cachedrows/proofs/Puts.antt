@@ -9,12 +9,12 @@ use Rattle.hdl_value.specs.declared.value.Value.{Value}
 use Rattle.hdl_value.proofs.Places.{handle_itself}
 use Rattle.hdl_rows.specs.Heads.{head}
 use Rattle.hdl_rows.specs.RowStore.{by_index, put_all, table_of, AreInOrder}
-use Rattle.hdl_rows.specs.Table.{Table, place, at, values_of, value_with, with_values, HaveTheirIndexes}
+use Rattle.hdl_rows.specs.Table.{Table, place, at, values_of, value_with, with_new_handle, with_values, HaveTheirIndexes}
 use Rattle.hdl_rows.specs.Write.{Add}
 use Rattle.hdl_rows.proofs.Indexed.{stand_at_their_own}
 use Rattle.hdl_rows.proofs.ShelfLemmas.{index_test, within, at-table, values_of-table, values_put, values_there}
-use Rattle.hdl_rows.proofs.Writes.{put_at, at-after_write, same_values}
-use Rattle.hdl_cachedrows.specs.Cache.{IsFound, AreHeads}
+use Rattle.hdl_rows.proofs.Writes.{put_at, at-after_write, created_is_there_lem, same_values}
+use Rattle.hdl_cachedrows.specs.Cache.{IsFound, AreHeads, IsAbsent}
 
 abbrev Rise : List Value → Type 0
 Rise vs = IsTrue (is_sorted nat_cmp (by_index vs))
@@ -148,3 +148,17 @@ heads_with t h old vs ws were is =
       found = same ∙ sym (heads_put values vs) ∙ ap (map head) (sym done.found);
       by_index = subst (HaveTheirIndexes (with_values t h vs) h) (sym done.found) done.own;
     }
+
+-- ---- the table after a handle was created
+
+no_values : (t : Table) (h : List ℕ) → IsAbsent t h → values_of t h ≡ []
+no_values t h is = values_are t h [] refl is.none
+
+-- before its values are put
+pub created_found : (t : Table) (h : List ℕ) → IsAbsent t h → IsFound (with_new_handle t h []) h []
+created_found t h is = record { there = (created_is_there_lem t h [] tt).0; found = sym (no_values t h is); by_index = λ i. sym (is.none i) }
+
+pub created_heads : (t : Table) (h : List ℕ) → IsAbsent t h → AreHeads (with_new_handle t h []) h []
+created_heads t h is =
+    let found = created_found t h is in
+    record { there = found.there; found = ap (map head) found.found; by_index = subst (HaveTheirIndexes (with_new_handle t h []) h) found.found found.by_index }

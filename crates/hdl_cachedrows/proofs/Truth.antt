@@ -1,20 +1,22 @@
 -- What is kept of a table stays the table's.
-use Rattle.std.proofs.Common.{◌≡◌, ◌≢◌, ℕ, true, false, Vec, List, [], ◌∷◌, ◌-◌, ◌==◌, length, map, take, Option, None, Some, Result, Ok, Err, OnOk, OnErr, is_some, inl, inr, refl, sym, ap, ◌∙◌, subst, true≢false, Contains}
+use Rattle.std.proofs.Common.{◌≡◌, ◌≢◌, ℕ, true, false, Vec, List, [], ◌∷◌, ◌-◌, ◌==◌, length, map, take, Option, None, Some, Result, Ok, Err, OnOk, OnErr, is_some, slice_get, unwrap_or, inl, inr, refl, sym, ap, ◌∙◌, subst, true≢false, Contains}
 use Rattle.std.specs.declared.alloc.Global.{Global}
 use Rattle.std.specs.List.{AllByRecursion, IsDistinct}
+use Rattle.std.specs.FinMap as finite
 use Rattle.std.specs.Map.{keys_of, lookup, lookup_entry, remove_entry}
+use Rattle.hdl_value.specs.Place.{place_cmp}
 use Rattle.hdl_value.specs.declared.value.Value.{Value}
 use Rattle.hdl_rows.specs.Heads.{head}
-use Rattle.hdl_rows.specs.Table.{Table, place, has, at, values_of, values_in, value_with, with_values, HaveTheirIndexes}
-use Rattle.hdl_rows.specs.Write.{Write, Add, handle_of, after_write}
-use Rattle.hdl_rows.proofs.Writes.{other_handles_stay_lem}
+use Rattle.hdl_rows.specs.Table.{Table, no_rows, place, has, at, values_of, values_in, value_with, with_new_handle, with_values, HaveTheirIndexes, IsPlaced}
+use Rattle.hdl_rows.specs.Write.{Write, Create, Add, CanWrite, handle_of, after_write}
+use Rattle.hdl_rows.proofs.Writes.{other_handles_stay_lem, some_none, stay_placed_lem}
 use Rattle.lru.specs.LruCache.{lru_cache, promoted, put_entries}
 use Rattle.lru.proofs.CallerLemmas.{Contains-lookup, Contains-lookup_entry, Contains-promoted, Contains-put_entries, Contains-take}
 use Rattle.lru.proofs.Splits.{Contains-cons, Contains-head, Contains-nil, Contains-tail}
 use Rattle.hdl_cachedrows.specs.declared.cached_handle.CachedHandle.{CachedHandle}
 use Rattle.hdl_cachedrows.specs.declared.cached_handle.CachedHandle.TheVariants.{Values, Heads}
 use Rattle.hdl_cachedrows.specs.Cost.{Entry}
-use Rattle.hdl_cachedrows.specs.Cache.{IsFound, AreHeads, IsKept, AreTrue, AgreeBut}
+use Rattle.hdl_cachedrows.specs.Cache.{IsFound, AreHeads, IsAbsent, IsKept, AreTrue, AgreeBut}
 use Rattle.hdl_cachedrows.specs.Cached.{Cached}
 use Rattle.hdl_cachedrows.proofs.Keys.{is_key, same_key, same, alike, Lru}
 
@@ -29,6 +31,11 @@ pub found_true : (t : Table) (h : List ℕ) (es : List Entry) (k : CachedHandle)
 found_true t h es k all is =
     let there = Contains-lookup (is_key h) es k (sym is) in
     subst (λ g. IsKept t g k) (sym (same h there.0.items there.2)) (all (there.0, k) there.1)
+
+-- what is used last is of its handle
+pub last_true : (t : Table) (h : List ℕ) (es : List Entry) (e : Entry) → AreTrue t es → Some e ≡ slice_get es 0 → e.0.items ≡ h → IsKept t h e.1
+last_true t h [] e all is of = absurd (some_none e is)
+last_true t h (x ∷ es) e all is of = subst (λ g. IsKept t g e.1) of (all e (subst (λ (o : Option Entry). Contains (x ∷ es) (unwrap_or o e)) (sym is) (Contains-head x es)))
 
 pub put_true : (t : Table) (c : Lru) (key : Vec ℕ Global) (k : CachedHandle) → AreTrue t c.entries → IsKept t key.items k → AreTrue t (put_entries same_key c key k)
 put_true t c key k all of e there = elim (Contains-put_entries same_key c key k e there) [
@@ -61,14 +68,11 @@ some_of (Some x) h = (x, refl)
 pub has_true : (t : Table) (h : List ℕ) (es : List Entry) → AreTrue t es → is_some (lookup (is_key h) es) ≡ true → has t h ≡ true
 has_true t h es all is = let some = some_of (lookup (is_key h) es) is in kept_there t h some.0 (found_true t h es some.0 all some.1)
 
-some≢none : {X : Type 0} (x : X) → Some x ≡ None → ⊥
-some≢none x is = cc
-
 -- an index at which there is no head is one at which there is no value
 no_head : (i : ℕ) (vs : List Value) → value_with i (map head vs) ≡ None → value_with i vs ≡ None
 no_head i [] none = refl
 no_head i (v ∷ vs) none = (elim (v.index == i) as (λ b. (v.index == i) ≡ b → value_with i (v ∷ vs) ≡ None) [
-  | true ↦ λ is. absurd (some≢none (head v) (rw is at none))
+  | true ↦ λ is. absurd (some_none (head v) (rw is at none))
   | false ↦ λ is. rw is (no_head i vs (rw is at none))
 ]) refl
 
@@ -144,3 +148,29 @@ agree (Err e) w t u done undone g other = (ap (λ (s : Table). has s g) undone, 
 -- the least recently used one goes
 pub pop_true : (t : Table) (es : List Entry) → AreTrue t es → AreTrue t (take (length es - 1) es)
 pop_true t es all e there = all e (Contains-take (length es - 1) es e there)
+
+-- what is kept is of other handles than one that is created
+pub created_true : (t : Table) (h : List ℕ) (vs : List Value) (es : List Entry) → AreTrue t es → has t h ≡ false → AreTrue (with_new_handle t h vs) es
+created_true t h vs es all absent e there =
+    let is = all e there in
+    let other : e.0.items ≢ h = λ same. true≢false (sym (kept_there t e.0.items e.1 is) ∙ ap (has t) same ∙ absent) in
+    let on = other_handles_stay_lem t (Create h vs) e.0.items other in
+    stays t (with_new_handle t h vs) e.0.items e.1 on.0 on.1 on.2 is
+
+-- ---- values are at handles
+
+pub none_placed : (t : Table) → t ≡ no_rows → IsPlaced t
+none_placed t none = subst IsPlaced (sym none) (λ p v some. absurd (some_none v (sym (sym (finite.get-empty place_cmp p) ∙ some))))
+
+-- a write, done or refused, leaves each value at a handle
+pub placed_after : {X E : Type 0} (r : Result X E) (w : Write) (t u : Table) → OnOk r (u ≡ after_write t w) → OnErr r (u ≡ t) → IsPlaced t → CanWrite t w → IsPlaced u
+placed_after (Ok x) w t u done undone placed can = subst IsPlaced (sym done) (stay_placed_lem t w placed can)
+placed_after (Err e) w t u done undone placed can = subst IsPlaced (sym undone) placed
+
+-- of a handle that isn't there no value is
+pub no_value : (t : Table) (h : List ℕ) → IsPlaced t → has t h ≡ false → IsAbsent t h
+no_value t h placed absent = record { absent = absent; none = λ i. none_of i (at t (place h i)) refl }
+  where
+    none_of : (i : ℕ) (o : Option Value) → at t (place h i) ≡ o → at t (place h i) ≡ None
+    none_of i None is = is
+    none_of i (Some v) is = absurd (true≢false (sym (placed (place h i) v is) ∙ absent))

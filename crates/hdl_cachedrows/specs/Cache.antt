@@ -1,5 +1,5 @@
 -- When what is kept is a table's.
-use Rattle.std.specs.Prelude.{ℕ, List, true, ◌≡◌, ◌≢◌, Contains}
+use Rattle.std.specs.Prelude.{ℕ, List, true, false, None, ◌≡◌, ◌≢◌, Contains}
 use Rattle.hdl_value.specs.declared.value.Value.{Value}
 use Rattle.hdl_rows.specs.Heads.{heads_of}
 use Rattle.hdl_rows.specs.Table.{Table, place, has, at, values_of, HaveTheirIndexes}
@@ -18,6 +18,11 @@ pub record AreHeads (t : Table) (h : List ℕ) (vs : List Value) : Type 0 where
   pub there : has t h ≡ true
   pub found : vs ≡ heads_of t h
   pub by_index : HaveTheirIndexes t h (values_of t h)
+
+-- The handle isn't there, and neither is a value of it.
+pub record IsAbsent (t : Table) (h : List ℕ) : Type 0 where
+  pub absent : has t h ≡ false
+  pub none : (i : ℕ) → at t (place h i) ≡ None
 
 -- what is kept of a handle is the table's
 abbrev pub IsKept : Table → List ℕ → CachedHandle → Type 0

@@ -1,9 +1,9 @@
-//! What was read last, by handle.
+//! What was read or created last, by handle.
 
 ghost use Rattle.std.specs.Prelude.{◌≡◌, ◌≤◌, [], true, IfOk, IfSome};
-ghost use Rattle.hdl_rows.specs.Table.{Table, place, has, at, with_values};
+ghost use Rattle.hdl_rows.specs.Table.{Table, place, has, at, with_new_handle, with_values};
 ghost use Rattle.hdl_cachedrows.specs.Cost.{total};
-ghost use Rattle.hdl_cachedrows.specs.Cache.{AgreeBut, AreHeads, AreTrue, IsFound, IsKept};
+ghost use Rattle.hdl_cachedrows.specs.Cache.{AgreeBut, AreHeads, AreTrue, IsAbsent, IsFound, IsKept};
 
 use crate::cached_handle::CachedHandle;
 use hdl_value::Value;
@@ -71,8 +71,18 @@ impl Cache {
         }
     }
 
-    /// A copy of the value at an index of a handle, or that there is none. None: this isn't kept, or memory was refused.
-    pub(crate) fn find_at(&mut self, name: &[u8], index: u32) -> Option<Option<Value>>
+    /// What is kept of a handle, if it is the most recently used. It needs no hash.
+    fn last_used(&self, name: &[u8]) -> Option<&CachedHandle>
+        ensures of_table { (t : Table) → AreTrue t self.now.kept.entries → IfSome result (λ kept. IsKept t name.now kept.now) }
+    {
+        match self.kept.peek_mru() {
+            Some((last, kept)) if last.as_slice() == name => Some(kept),
+            _ => None,
+        }
+    }
+
+    /// As `find_at`, by the hash of the name.
+    fn seek_at(&mut self, name: &[u8], index: u32) -> Option<Option<Value>>
         ensures of_table { (t : Table) → AreTrue t self.old.kept.entries → IfSome result (λ value. value ≡ at t (place name.now index)) }
         ensures still_true { (t : Table) → AreTrue t self.old.kept.entries → AreTrue t self.new.kept.entries }
         ensures same_limit { self.new.limit ≡ self.old.limit }
@@ -80,6 +90,18 @@ impl Cache {
         match self.kept.get(name) {
             Some(kept) => kept.at(self.alloc, index),
             None => None,
+        }
+    }
+
+    /// A copy of the value at an index of a handle, or that there is none. None: this isn't kept, or memory was refused.
+    pub(crate) fn find_at(&mut self, name: &[u8], index: u32) -> Option<Option<Value>>
+        ensures of_table { (t : Table) → AreTrue t self.old.kept.entries → IfSome result (λ value. value ≡ at t (place name.now index)) }
+        ensures still_true { (t : Table) → AreTrue t self.old.kept.entries → AreTrue t self.new.kept.entries }
+        ensures same_limit { self.new.limit ≡ self.old.limit }
+    {
+        match self.last_used(name) {
+            Some(kept) => kept.at(self.alloc, index),
+            None => self.seek_at(name, index),
         }
     }
 
@@ -105,6 +127,21 @@ impl Cache {
     {
         let share = self.limit / SHARES;
         let Ok(kept) = CachedHandle::of(self.alloc, name, values, share) else {
+            return;
+        };
+        let Ok(name) = Vec::from_slice(self.alloc, name) else {
+            return;
+        };
+        self.insert(name, kept);
+    }
+
+    /// Keeps the values that a handle was created with, as [`keep`](Cache::keep) those that were found.
+    pub(crate) fn keep_created(&mut self, name: &[u8], values: &[Value])
+        ensures still_true { (t : Table) → AreTrue t self.old.kept.entries → IsAbsent t name.now → AreTrue (with_new_handle t name.now values.now) self.new.kept.entries }
+        ensures same_limit { self.new.limit ≡ self.old.limit }
+    {
+        let share = self.limit / SHARES;
+        let Ok(kept) = CachedHandle::created(self.alloc, name, values, share) else {
             return;
         };
         let Ok(name) = Vec::from_slice(self.alloc, name) else {

@@ -1,6 +1,7 @@
 //! The table.
 
 ghost use Rattle.std.specs.Prelude.{◌≡◌, ◌≤◌, IfOk};
+ghost use Rattle.hdl_rows.specs.Table.{no_rows};
 
 use crate::cache::Cache;
 use hdl_limits::Octets;
@@ -16,7 +17,7 @@ use std::marker::Model;
 /// How many octets what is kept may cost by default: 40 MiB, some 100,000 handles of one short value.
 pub const LIMIT_DEFAULT: usize = 41_943_040;
 
-/// A table that keeps the values of the handles that were read last. Contracts see what the cached table holds, how many of its calls
+/// A table that keeps the values of the handles that were read or created last. Contracts see what the cached table holds, how many of its calls
 /// were refused, what was read, of it or of what is kept, and, in octets, what is kept and its bound.
 #[derive(Drop)]
 pub struct CachedRows<R: Rows + Drop> {
@@ -26,6 +27,7 @@ pub struct CachedRows<R: Rows + Drop> {
 }
 
 impl<R: Rows + Drop> Model for CachedRows<R> {
+    ghost use Rattle.hdl_rows.specs.Table.{IsPlaced};
     ghost use Rattle.hdl_cachedrows.specs.Cost.{total};
     ghost use Rattle.hdl_cachedrows.specs.Cache.{AreTrue};
     ghost use Rattle.hdl_cachedrows.specs.Cached.{Cached, cached_code};
@@ -36,18 +38,19 @@ impl<R: Rows + Drop> Model for CachedRows<R> {
 
     ghost view = { λ s. record { table = R.content s.rows; refused = R.refused s.rows; reads = s.reads; octets = total s.cache.kept.entries; limit = s.cache.limit } };
 
-    ghost invariant = { λ s. AreTrue (R.content s.rows) s.cache.kept.entries };
+    ghost invariant = { λ s. IsPlaced (R.content s.rows) × AreTrue (R.content s.rows) s.cache.kept.entries };
 }
 
 impl<R: Rows + Drop> CachedRows<R> {
-    /// A cache over this table, of which nothing is kept yet. What is kept will cost at most `limit` octets; with 0 nothing is. Refused only
-    /// for want of memory.
+    /// A cache over this table, which holds nothing yet. What is kept will cost at most `limit` octets; with 0 nothing is. Refused only for
+    /// want of memory.
     pub fn new(
         alloc: Global,
         rows: R,
         limit: usize,
         hasher: RandomState,
     ) -> Result<CachedRows<R>, AllocError>
+        requires empty { R.content rows ≡ no_rows }
         ensures { IfOk result (λ cached. cached ≡ record { table = R.content rows; refused = R.refused rows; reads = 0; octets = 0; limit = limit }) }
     {
         let cache = Cache::new(alloc, limit, hasher)?;
@@ -147,8 +150,9 @@ impl<R: Rows + Drop> Rows for CachedRows<R> {
         values: &[Value],
         provenance: &Provenance<'_>,
     ) -> Result<(), Refused> {
-        self.cache.forget(name.canon());
-        self.rows.create(name, values, provenance)
+        self.rows.create(name, values, provenance)?;
+        self.cache.keep_created(name.canon(), values);
+        Ok(())
     }
 
     fn add(

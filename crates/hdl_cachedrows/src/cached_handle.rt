@@ -6,9 +6,9 @@ ghost use Rattle.std.specs.FinMap.{put};
 ghost use Rattle.std.specs.Ordering.{nat_cmp};
 ghost use Rattle.hdl_limits.specs.Counts.{at_most_u64};
 ghost use Rattle.hdl_rows.specs.RowStore.{by_index, put_all};
-ghost use Rattle.hdl_rows.specs.Table.{Table, place, at, value_with, with_values};
+ghost use Rattle.hdl_rows.specs.Table.{Table, place, at, value_with, with_new_handle, with_values};
 ghost use Rattle.hdl_cachedrows.specs.Cost as cost;
-ghost use Rattle.hdl_cachedrows.specs.Cache.{AreHeads, IsFound, IsKept};
+ghost use Rattle.hdl_cachedrows.specs.Cache.{AreHeads, IsAbsent, IsFound, IsKept};
 
 use crate::cost::entry_cost;
 use hdl_rows::heads::heads_of;
@@ -92,6 +92,24 @@ impl CachedHandle {
         } else {
             Ok(CachedHandle::Values(copies(alloc, values)?))
         }
+    }
+
+    /// What is kept of a handle that was created with these values: copies of them, or of their heads if the values cost more than `most`.
+    pub(crate) fn created(
+        alloc: Global,
+        name: &[u8],
+        values: &[Value],
+        most: usize,
+    ) -> Result<CachedHandle, AllocError>
+        ensures of_table { (t : Table) (h : List ℕ) → IsAbsent t h → IfOk result (IsKept (with_new_handle t h values.now) h) }
+    {
+        let none = Vec::with_capacity(alloc, values.len())?;
+        let before = if entry_cost(name, values) > most {
+            CachedHandle::Heads(none)
+        } else {
+            CachedHandle::Values(none)
+        };
+        before.with_values(alloc, values)
     }
 
     /// What is kept of a handle once these values were put into the table. Nothing but these is copied.

@@ -163,7 +163,7 @@ fn advice_for(asked: &Asked<'_>, code: ResponseCode) -> &'static str {
     match code {
         ResponseCode::Error => advice_on_rest(operation),
         ResponseCode::ServerBusy => {
-            ": nothing was done: try again; if it stays so, the space of this prefix there may be full: ask its operator"
+            ": nothing was done: try again; if it stays so, the server's disk or memory may be full, or what this prefix may hold there: ask its operator"
         }
         ResponseCode::ProtocolError => advice_on_layout(operation),
         ResponseCode::OperationDenied => advice_on_change(operation),

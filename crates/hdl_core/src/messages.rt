@@ -251,16 +251,16 @@ fn respond<R: Masked>(
     Ok(octets)
 }
 
-/// Hears a message on a lane. A challenge takes the message with it into the lane's slot, once its reply is written.
+/// Hears a message on a lane. A challenge takes a copy of the message with it into the lane's slot, once its reply is written.
 pub(crate) fn handle_message<R: Masked>(
     lane_context: &LaneContext<'_>,
     rows: &mut R,
     lanes: &mut Lanes,
     origin: &Origin,
-    message: Vec<u8>,
+    message: &[u8],
 ) -> Result<Octets, Refused>
     requires there { origin.now.lane < length lanes.old }
-    ensures heard { IfOk result (λ octets. HandlesMessageAt (scene lane_context.now (R.content rows.old) lanes.old) origin.now.lane (message_as origin.now message.items) octets lanes.new (R.content rows.new)) }
+    ensures heard { IfOk result (λ octets. HandlesMessageAt (scene lane_context.now (R.content rows.old) lanes.old) origin.now.lane (message_as origin.now message.now) octets lanes.new (R.content rows.new)) }
     ensures read { IfOk result (λ octets. IsReplyFrame octets) }
     ensures undone { OnErr result (R.content rows.new ≡ R.content rows.old) }
     ensures unchanged { OnErr result (lanes.new ≡ lanes.old) }
@@ -268,7 +268,7 @@ pub(crate) fn handle_message<R: Masked>(
     ensures stranger { IsUnchallenged (state_at lanes.old origin.now.lane) origin.now.peer → ReadsWithin (R.content rows.old) anyone_cost (R.reads rows.old) (R.reads rows.new) }
 {
     let owner = &lane_context.owner;
-    let Ok(request) = read_request(owner.wire(), &message) else {
+    let Ok(request) = read_request(owner.wire(), message) else {
         return malformed_reply(owner.alloc, &origin.envelope);
     };
     if let Some(response) = response_of(request.body()) {
@@ -285,12 +285,13 @@ pub(crate) fn handle_message<R: Masked>(
         RequestResult::Answered(octets) => Ok(octets),
         RequestResult::Challenged(octets, digest) => {
             let nonce = origin.nonce;
+            let copy = Vec::from_slice(owner.alloc, message)?;
             let pending = Pending {
                 peer: origin.peer,
                 moment: origin.moment,
                 nonce,
                 digest,
-                message: Octets::new(message),
+                message: Octets::new(copy),
             };
             lanes.challenge(origin.lane, pending);
             Ok(octets)

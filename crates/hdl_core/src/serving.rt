@@ -22,17 +22,6 @@ use hdl_msg::{busy, refuse};
 use hdl_ops::{Masked, Refused};
 use hdl_pool::Taken;
 
-/// The message behind an envelope, in the octets' own memory.
-fn message_of(octets: Octets) -> Vec<u8>
-    ensures { result.items ≡ drop 20 octets }
-{
-    let mut message = octets.into_vec();
-    let start = ENVELOPE_LEN.min(message.len());
-    message.copy_within(start.., 0);
-    message.truncate(message.len() - start);
-    message
-}
-
 /// A piece of a message that came on an open lane. What came of its message before is forgotten once the whole message is
 /// answered; where that is refused it stands as it was.
 fn assemble<R: Masked>(
@@ -58,7 +47,7 @@ fn assemble<R: Masked>(
     };
     match taken {
         Taken::Whole(message) => {
-            let reply = handle_message(lane_context, rows, lanes, origin, message)?;
+            let reply = handle_message(lane_context, rows, lanes, origin, &message)?;
             lanes.free(origin.lane, origin.peer, &origin.envelope);
             Ok(Some(reply))
         }
@@ -114,7 +103,7 @@ fn receive<R: Masked>(
         let reply = assemble(lane_context, rows, lanes, &origin, &frame);
         return outcome_of(&envelope, reply);
     }
-    let message = message_of(bytes);
+    let message = frame.payload();
     match handle_message(lane_context, rows, lanes, &origin, message) {
         Ok(reply) => Outcome::Reply(reply),
         Err(_) => Outcome::Busy(busy(&envelope)),

@@ -3,7 +3,7 @@
 
 use crate::assertion::same;
 use crate::rows::{are, each_call};
-use crate::writes::{create, reference};
+use crate::writes::{create, reference, remove};
 use hdl_cachedrows::{CachedRows, LIMIT_DEFAULT};
 use hdl_name::Name;
 use hdl_rows::{Fuse, PlainRows, Provenance, Refused, Rows};
@@ -55,23 +55,75 @@ fn forgets<R: Rows>(rt: &impl Abort, rows: &mut R, name: &Name) -> Result<(), Fa
     Ok(())
 }
 
-/// A handle that was made and looked at is read again and again without a call of the table, until it is written.
-fn keeps<R: Rows>(rt: &impl Abort, alloc: Global, rows: &mut R) -> Result<(), Fail> {
-    let place = reference(alloc, b"10.abc/x", 2)?;
-    let two = value(alloc, 2, b"URL", b"two")?;
-    create(rt, rows, &place.name, &[two])?;
+/// A handle is read again and again without a call of the table, until it is written.
+fn keeps<R: Rows>(rt: &impl Abort, rows: &mut R, place: &Reference) -> Result<(), Fail> {
     for turn in 0..2u32 {
-        same(rt, turn, has_just(rows, &place, b"two")?, true);
+        same(rt, turn, has_just(rows, place, b"two")?, true);
     }
     forgets(rt, rows, &place.name)
 }
 
-/// The table answers three calls, two to make a handle and one to look at it.
+/// What was created is kept.
+fn keeps_created<R: Rows>(rt: &impl Abort, alloc: Global, rows: &mut R) -> Result<(), Fail> {
+    let place = reference(alloc, b"10.abc/x", 2)?;
+    let two = value(alloc, 2, b"URL", b"two")?;
+    create(rt, rows, &place.name, &[two])?;
+    keeps(rt, rows, &place)
+}
+
+/// The table answers the two calls that make a handle.
+#[test]
+fn a_created_handle_is_not_asked_for(rt: HostRuntime) -> Result<(), Fail> {
+    let fuse = Fuse::new(PlainRows::new(rt.alloc()), 3, u64::MAX);
+    let mut cached = CachedRows::new(rt.alloc(), fuse, LIMIT_DEFAULT, RandomState::new(&rt)?)?;
+    keeps_created(&rt, rt.alloc(), &mut cached)
+}
+
+/// What was looked at is kept, after a removal forgot what was created.
+fn keeps_looked_at<R: Rows>(rt: &impl Abort, alloc: Global, rows: &mut R) -> Result<(), Fail> {
+    let place = reference(alloc, b"10.abc/x", 2)?;
+    let removed = reference(alloc, b"10.abc/x", 3)?;
+    let values = [
+        value(alloc, 2, b"URL", b"two")?,
+        value(alloc, 3, b"URL", b"three")?,
+    ];
+    create(rt, rows, &place.name, &values)?;
+    remove(rt, rows, &removed)?;
+    keeps(rt, rows, &place)
+}
+
+/// The table answers four calls, two to make a handle, one to remove a value and one to look at what is left.
 #[test]
 fn a_kept_handle_is_not_asked_for(rt: HostRuntime) -> Result<(), Fail> {
-    let fuse = Fuse::new(PlainRows::new(rt.alloc()), 4, u64::MAX);
+    let fuse = Fuse::new(PlainRows::new(rt.alloc()), 5, u64::MAX);
     let mut cached = CachedRows::new(rt.alloc(), fuse, LIMIT_DEFAULT, RandomState::new(&rt)?)?;
-    keeps(&rt, rt.alloc(), &mut cached)
+    keeps_looked_at(&rt, rt.alloc(), &mut cached)
+}
+
+/// Of a handle that wasn't created nothing is kept, and it can be created later.
+fn keeps_none_refused<R: Rows>(rt: &impl Abort, alloc: Global, rows: &mut R) -> Result<(), Fail> {
+    let place = reference(alloc, b"10.abc/x", 2)?;
+    let one = value(alloc, 2, b"URL", b"one")?;
+    let two = value(alloc, 2, b"URL", b"two")?;
+    assert!(rt; !rows.exists(&place.name)?);
+    same(
+        rt,
+        "a creation",
+        rows.create(&place.name, &[one], &Provenance::opening()),
+        Err(Refused),
+    );
+    same(rt, "a look", rows.look(&place.name)?.is_none(), true);
+    create(rt, rows, &place.name, &[two])?;
+    same(rt, "its value", has_just(rows, &place, b"two")?, true);
+    Ok(())
+}
+
+/// The table refuses its second call, which would create a handle.
+#[test]
+fn a_refused_creation_is_not_kept(rt: HostRuntime) -> Result<(), Fail> {
+    let fuse = Fuse::new(PlainRows::new(rt.alloc()), 2, 2);
+    let mut cached = CachedRows::new(rt.alloc(), fuse, LIMIT_DEFAULT, RandomState::new(&rt)?)?;
+    keeps_none_refused(&rt, rt.alloc(), &mut cached)
 }
 
 /// Whether the handle has just one value, whose head has this index.
@@ -103,10 +155,10 @@ fn keeps_heads<R: Rows>(rt: &impl Abort, alloc: Global, rows: &mut R) -> Result<
     Ok(())
 }
 
-/// The table answers three calls, two to make a handle and one to look at it.
+/// The table answers the two calls that make a handle.
 #[test]
 fn heads_of_a_large_handle_are_kept(rt: HostRuntime) -> Result<(), Fail> {
-    let fuse = Fuse::new(PlainRows::new(rt.alloc()), 4, u64::MAX);
+    let fuse = Fuse::new(PlainRows::new(rt.alloc()), 3, u64::MAX);
     let mut cached = CachedRows::new(rt.alloc(), fuse, SMALL, RandomState::new(&rt)?)?;
     keeps_heads(&rt, rt.alloc(), &mut cached)
 }

@@ -26,7 +26,7 @@ fn head_of(alloc: Global, value: &Value) -> Result<Value, AllocError>
 pub fn heads_of(alloc: Global, values: &[Value]) -> Result<Vec<Value>, AllocError>
     ensures { IfOk result (λ heads. heads.items ≡ map spec.head values.now) }
 {
-    let mut heads = Vec::new(alloc);
+    let mut heads = Vec::with_capacity(alloc, values.len())?;
     for value in values {
         heads.push(head_of(alloc, value)?)?;
     }

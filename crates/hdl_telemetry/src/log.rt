@@ -4,7 +4,7 @@
 //! the recorder of a lane, the thread that serves -> LogSender ==a queue for each==> Log::write_lines -> standard error, or a file
 //! ```
 
-use crate::log_file::{LogFile, end_last_line, open_log};
+use crate::log_file::{LogFile, drop_last, drop_torn_line, is_fifo, open_log};
 use crate::log_status::{Backlog, LogKind, LogStatus};
 use hdl_lanes::{Inlet, Outlet, lane};
 use std::alloc::{AllocError, Global};
@@ -97,20 +97,22 @@ struct LogWriter {
     /// Where the file comes from once it was opened anew.
     files: Option<Outlet<File>>,
     status: Arc<LogStatus>,
-    /// Whether the last line couldn't be written, and whether the file ends with a part of one.
+    /// Whether the last line couldn't be written, and how many octets of a part of one the file ends with.
     is_failing: bool,
-    is_torn: bool,
+    torn: usize,
     /// Whether lines are brought onto the disk, and whether some aren't there yet.
     syncs: bool,
     is_unsynced: bool,
 }
 
 impl LogWriter {
-    /// Ends the line of which a part stands in the file, if there is one, so that the next line stands by itself.
-    fn end_torn_line(&mut self) {
+    /// Takes the part of a line off the file, if there is one. In a FIFO, which can't lose it, the line is ended: so the next one stands by itself.
+    fn drop_torn_part(&mut self) {
         if let Sink::File(file) = &mut self.sink {
-            if self.is_torn && write_octets(file, b"\n").is_ok() {
-                self.is_torn = false;
+            if self.torn > 0
+                && (drop_last(file, self.torn).is_ok() || write_octets(file, b"\n").is_ok())
+            {
+                self.torn = 0;
             }
         }
     }
@@ -122,7 +124,7 @@ impl LogWriter {
             Sink::File(file) => match write_octets(file, line.as_bytes()) {
                 Ok(()) => true,
                 Err(written) => {
-                    self.is_torn = written > 0;
+                    self.torn = written;
                     false
                 }
             },
@@ -131,8 +133,8 @@ impl LogWriter {
 
     /// Writes a line, or counts it as lost.
     fn write<R: Eprint>(&mut self, rt: &R, line: &str) {
-        self.end_torn_line();
-        self.is_failing = self.is_torn || !self.put(rt, line);
+        self.drop_torn_part();
+        self.is_failing = self.torn > 0 || !self.put(rt, line);
         if self.is_failing {
             self.status.fail();
         }
@@ -158,7 +160,7 @@ impl LogWriter {
             if let Some(file) = files.take() {
                 self.sync();
                 self.sink = Sink::File(file);
-                self.is_torn = false;
+                self.torn = 0;
             }
         }
     }
@@ -190,7 +192,7 @@ impl Log {
                 files: None,
                 status,
                 is_failing: false,
-                is_torn: false,
+                torn: 0,
                 syncs: kind == LogKind::History,
                 is_unsynced: false,
             },
@@ -202,11 +204,14 @@ impl Log {
         Log::new(alloc, LogKind::Log, Sink::Errors)
     }
 
-    /// A log that appends to the file at a path, and what opens that anew. The file is made if it isn't there. If a crash cut the last line of a history, a line end is put behind it.
+    /// A log that appends to the file at a path, and what opens that anew. The file is made if it isn't there. What a crash left of its last line is taken off.
     pub fn to_file(rt: &HostRuntime, kind: LogKind, path: &str) -> io::Result<(Log, LogFile)> {
         let alloc = rt.alloc();
-        if kind == LogKind::History {
-            end_last_line(rt, path)?;
+        if !is_fifo(rt, path) {
+            let dropped = drop_torn_line(rt, path);
+            if kind == LogKind::History {
+                dropped?;
+            }
         }
         let mut log = Log::new(alloc, kind, Sink::File(open_log(rt, path)?))?;
         let (inlet, files) = lane(alloc, FILES_MOST)?;

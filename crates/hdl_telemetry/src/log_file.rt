@@ -4,7 +4,7 @@ use crate::log_status::LogStatus;
 use hdl_lanes::Inlet;
 use std::alloc::AllocError;
 use std::fs::{self, File, OpenOptions};
-use std::io::{self, Read, Seek, SeekFrom, Write};
+use std::io::{self, Read, Seek, SeekFrom};
 use std::os::unix::fs::{FileTypeExt, OpenOptionsExt};
 use std::sync::Arc;
 
@@ -15,7 +15,7 @@ const MODE: u32 = 0o600;
 const LF: u8 = b'\n';
 
 /// Whether a FIFO is there.
-fn is_fifo(rt: &HostRuntime, path: &str) -> bool {
+pub(crate) fn is_fifo(rt: &HostRuntime, path: &str) -> bool {
     match fs::metadata(rt, path) {
         Ok(found) => found.file_type().is_fifo(),
         Err(_) => false,
@@ -31,26 +31,37 @@ pub(crate) fn open_log(rt: &HostRuntime, path: &str) -> io::Result<File> {
     options.open(rt, path)
 }
 
-/// Whether the file ends within a line.
-fn ends_within_line(file: &mut File) -> io::Result<bool> {
-    if file.seek(SeekFrom::End(0))? == 0 {
-        return Ok(false);
+/// Where the last whole line of a file of this length ends.
+fn end_of_lines(file: &mut File, length: u64) -> io::Result<u64> {
+    for torn in 0..length {
+        let end = length - torn;
+        file.seek(SeekFrom::Start(end - 1))?;
+        let mut last = [0];
+        file.read(&mut last)?;
+        if last == [LF] {
+            return Ok(end);
+        }
     }
-    file.seek(SeekFrom::End(-1))?;
-    let mut last = [LF];
-    file.read(&mut last)?;
-    Ok(last != [LF])
+    Ok(0)
 }
 
-/// Puts a line end behind a line that a crash cut, so that the next one stands by itself.
-pub(crate) fn end_last_line(rt: &HostRuntime, path: &str) -> io::Result<()> {
+/// Takes off what a crash left of a line, so that the file has whole lines only.
+pub(crate) fn drop_torn_line(rt: &HostRuntime, path: &str) -> io::Result<()> {
     let mut options = OpenOptions::new();
     options.read(true).append(true).create(true).mode(MODE);
     let mut file = options.open(rt, path)?;
-    if ends_within_line(&mut file)? {
-        file.write_all(&[LF])?;
+    let length = file.seek(SeekFrom::End(0))?;
+    let end = end_of_lines(&mut file, length)?;
+    if end < length {
+        file.set_len(end)?;
     }
     Ok(())
+}
+
+/// Takes the last octets off a file.
+pub(crate) fn drop_last(file: &File, octets: usize) -> io::Result<()> {
+    let length = file.metadata()?.len();
+    file.set_len(length.saturating_sub(octets as u64))
 }
 
 /// What opens the file of a log anew. It's another thread than the one that writes lines.

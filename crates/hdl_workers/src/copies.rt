@@ -66,8 +66,8 @@ pub(crate) fn copy<D: Door, C: LoopClock>(
 {
     clock.note_work();
     while line.turns > 0 {
-        if let Ok(copy) = Vec::from_slice(line.alloc, octets) {
-            return Ok(Octets::new(copy));
+        if let Ok(copy) = line.spares.copy(octets) {
+            return Ok(copy);
         }
         await_memory_for_frame(door, line, clock)?;
     }

@@ -53,6 +53,7 @@ mod packet;
 mod relay;
 mod sides;
 mod sources;
+mod spares;
 mod stream;
 mod worker;
 mod worker_lane;

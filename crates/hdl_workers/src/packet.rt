@@ -136,8 +136,8 @@ fn copy<C: LoopClock>(line: &mut WorkerLane, clock: &mut C, octets: &[u8]) -> Op
     ensures answers { IsTrue C.is_observed → C.answers clock.new ≡ C.answers clock.old }
 {
     while line.turns > 0 {
-        match Vec::from_slice(line.alloc, octets) {
-            Ok(copy) => return Some(Octets::new(copy)),
+        match line.spares.copy(octets) {
+            Ok(copy) => return Some(copy),
             Err(_) => clock.pause(),
         }
         line.turns -= 1;
@@ -218,6 +218,7 @@ fn reply_oldest<P: Packets, C: LoopClock>(
         Some(outcome) => {
             let sufficed = send_reply(packets, peer, octets_of(&outcome), &mut line.turns);
             packets.end_reply();
+            line.spares.keep(outcome);
             sufficed
         }
     }

@@ -74,7 +74,7 @@ fn join_ready(line: &mut WorkerLane, joined: &mut ArrayVec<u8, JOINED>) -> Optio
         match line.next() {
             None => return None,
             Some(outcome) => match joined.try_extend_from_slice(octets_of(&outcome)) {
-                Ok(()) => {}
+                Ok(()) => line.spares.keep(outcome),
                 Err(_) => return Some(outcome),
             },
         }
@@ -109,18 +109,18 @@ fn write_joined<D: Door, C: LoopClock>(
     door: &mut D,
     line: &mut WorkerLane,
     clock: &mut C,
-    first: Outcome,
+    first: &Outcome,
 ) -> Result<(), Stop>
     ensures goes_on { GoesOn D.Door door.old line.old door.new line.new }
     ensures put { put_by line.new ≡ put_by line.old }
     ensures answers { IsTrue C.is_observed → C.answers clock.new ≡ C.answers clock.old }
-    ensures whole { IsTrue D.is_observed → OnOk result ((t : List Outcome) → taken_by line.old ≡ t ++ first ∷ [] → Relayed t (D.current door.old) (taken_by line.new) (D.current door.new)) }
-    ensures part { IsTrue D.is_observed → (t : List Outcome) → taken_by line.old ≡ t ++ first ∷ [] → RelayedPart t (D.current door.old) (taken_by line.new) (D.current door.new) }
+    ensures whole { IsTrue D.is_observed → OnOk result ((t : List Outcome) → taken_by line.old ≡ t ++ first.now ∷ [] → Relayed t (D.current door.old) (taken_by line.new) (D.current door.new)) }
+    ensures part { IsTrue D.is_observed → (t : List Outcome) → taken_by line.old ≡ t ++ first.now ∷ [] → RelayedPart t (D.current door.old) (taken_by line.new) (D.current door.new) }
     ensures broken { IsTrue D.is_observed → IfErr result (λ stop. stop ≡ Broken → (D.current door.new).broken ≡ true) }
 {
     let mut joined = ArrayVec::new();
-    match joined.try_extend_from_slice(octets_of(&first)) {
-        Err(_) => write_outcome(door, &first, &mut line.turns),
+    match joined.try_extend_from_slice(octets_of(first)) {
+        Err(_) => write_outcome(door, first, &mut line.turns),
         Ok(()) => {
             let last = join(line, clock, &mut joined);
             write_all(door, joined.as_slice(), &mut line.turns)?;
@@ -149,7 +149,8 @@ pub(crate) fn relay<D: Door, C: LoopClock>(
     match line.next() {
         Some(outcome) => {
             clock.note_work();
-            let written = write_joined(door, line, clock, outcome);
+            let written = write_joined(door, line, clock, &outcome);
+            line.spares.keep(outcome);
             clock.note_work();
             written
         }

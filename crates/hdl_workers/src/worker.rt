@@ -95,6 +95,7 @@ pub(crate) fn finish<C: LoopClock>(line: WorkerLane, clock: &mut C, why: EndReas
         waiting: _,
         mut turns,
         alloc: _,
+        spares: _,
     } = line;
     if why == EndReason::Device {
         put_end(&mut inlet, clock, &mut turns);

@@ -3,6 +3,7 @@
 ghost use Rattle.std.specs.Prelude.{◌≡◌, ◌+◌, length};
 ghost use Rattle.hdl_lanes.specs.Lane.{put_into, taken_from};
 
+use crate::spares::Spares;
 use crate::{Item, WorkerSide};
 use hdl_events::{Outcome, What};
 use hdl_lanes::{Inlet, Outlet};
@@ -16,8 +17,9 @@ pub(crate) struct WorkerLane {
     pub(crate) waiting: u64,
     /// How many turns are left.
     pub(crate) turns: u64,
-    /// Where copies of frames are made.
     pub(crate) alloc: Global,
+    /// In which copies of frames are made.
+    pub(crate) spares: Spares,
     ghost balanced: { length (taken_from outcomes) + waiting ≡ length (put_into inlet) },
 }
 
@@ -38,6 +40,7 @@ impl WorkerLane {
             waiting: 0,
             turns,
             alloc,
+            spares: Spares::new(alloc),
         }
     }
 

@@ -61,7 +61,7 @@ enum ImportFault {
     Key,
     #[error("the server takes no changes (--read-only): name the one that does by --server; later rows were not tried")]
     ReadOnly,
-    #[error("the server takes no changes now, or the space of this prefix there is full: ask its operator; later rows were not tried")]
+    #[error("the server takes no changes now: its disk or memory may be full, or what this prefix may hold there: ask its operator; later rows were not tried")]
     Busy,
 }
 

@@ -1,4 +1,4 @@
-use Rattle.std.proofs.Common.{List, refl, sym, ap, ◌∙◌, subst}
+use Rattle.std.proofs.Common.{ℕ, List, refl, sym, ap, ◌∙◌, subst}
 use Rattle.hdl_pool.specs.Taking.{kept, ignored, displaced, fate_of}
 use Rattle.hdl_laws.specs.Cost.{IsUnchallenged}
 use Rattle.hdl_core.specs.Held.{Held, state_at}
@@ -17,7 +17,8 @@ pub returns-in_ok-reply-in-Whole-clause-assembled : goal.returns-in_ok-reply-in-
 returns-in_ok-reply-in-Whole-clause-assembled g c =
     let same = unchanged (lane_profile_by c.args.lane_context.now) (hosted_by c.args.lane_context.now.owner) (algorithms_by c.args.lane_context.now.owner) (g.R.Rows.content c.args.rows.now) c.args.lanes.now c.args.origin.now.lane c.args.origin.now c.args.frame.now.bytes.now c.requires.envelope c.in-Whole.message.items c.take_piece.new.self (sym (ap fate_of c.in-Whole.is) ∙ c.in-Ok.ensures.fate) c.in-Ok.ensures.lanes in
     whole (lane_profile_by c.args.lane_context.now) (hosted_by c.args.lane_context.now.owner) (algorithms_by c.args.lane_context.now.owner) (g.R.Rows.content c.args.rows.now) c.args.lanes.now c.args.origin.now.lane c.args.origin.now c.args.frame.now.bytes.now c.requires.envelope c.in-Whole.message.items c.in_ok-reply-in-Whole.reply c.handle_message.new.lanes c.free.new.self (g.R.Rows.content c.handle_message.new.rows) c.requires.there (sym (ap fate_of c.in-Whole.is) ∙ c.in-Ok.ensures.fate)
-    (subst (λ (ls : List Held). HandlesMessageAt (scene c.args.lane_context.now (g.R.Rows.content c.args.rows.now) ls) c.args.origin.now.lane (message_as c.args.origin.now c.in-Whole.message.items) c.in_ok-reply-in-Whole.reply c.handle_message.new.lanes (g.R.Rows.content c.handle_message.new.rows)) same c.in_ok-reply-in-Whole.ensures.heard)
+    (subst (λ (ls : List Held). HandlesMessageAt (scene c.args.lane_context.now (g.R.Rows.content c.args.rows.now) ls) c.args.origin.now.lane (message_as c.args.origin.now c.in-Whole.message.items) c.in_ok-reply-in-Whole.reply c.handle_message.new.lanes (g.R.Rows.content c.handle_message.new.rows)) same
+    (subst (λ (b : List ℕ). HandlesMessageAt (scene c.args.lane_context.now (g.R.Rows.content c.args.rows.now) c.take_piece.new.self) c.args.origin.now.lane (message_as c.args.origin.now b) c.in_ok-reply-in-Whole.reply c.handle_message.new.lanes (g.R.Rows.content c.handle_message.new.rows)) c.deref.ensures.value c.in_ok-reply-in-Whole.ensures.heard))
     c.free.ensures
 
 pub returns-in-Kept-clause-assembled : goal.returns-in-Kept-clause-assembled

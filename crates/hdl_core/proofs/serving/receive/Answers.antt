@@ -1,4 +1,4 @@
-use Rattle.std.proofs.Common.{ℕ, List, ap, sym, ◌∙◌, refl, subst}
+use Rattle.std.proofs.Common.{ℕ, List, drop, ap, sym, ◌∙◌, refl, subst}
 use Rattle.hdl_frame.specs.Frames.{IsFrame}
 use Rattle.hdl_frame.specs.Splitting.{IsFrameOf}
 use Rattle.hdl_msg.specs.Reply.{IsReplyFrame}
@@ -31,12 +31,13 @@ returns-then-is_truncated-clause-received g c =
 pub returns-in-Ok-handle_message-clause-received : goal.returns-in-Ok-handle_message-clause-received
 returns-in-Ok-handle_message-clause-received g c =
     let x = received_of c.args.received in
+    let found = subst (λ (b : List ℕ). IsFrameOf b c.in-Ok.frame) c.as_slice.ensures c.in-Ok.ensures.ok in
     let m : Origin = record { lane = c.args.received.lane; peer = c.args.received.peer; moment = c.args.received.moment; nonce = c.args.received.nonce; envelope = c.in-Ok.frame.envelope } in
-    heard (lane_profile_by c.args.lane_context.now) (hosted_by c.args.lane_context.now.owner) (algorithms_by c.args.lane_context.now.owner) (g.R.Rows.content c.args.rows.now) c.args.lanes.now c.args.received.lane x c.in-Ok.frame m c.message_of-message.result.items c.in-Ok-handle_message.reply c.handle_message.new.lanes (g.R.Rows.content c.handle_message.new.rows)
-    (subst (λ (b : List ℕ). IsFrameOf b c.in-Ok.frame) c.as_slice.ensures c.in-Ok.ensures.ok) (sym c.is_truncated.ensures ∙ c.if-is_truncated.false) c.message_of-message.ensures refl c.in-Ok-handle_message.ensures.heard
+    heard (lane_profile_by c.args.lane_context.now) (hosted_by c.args.lane_context.now.owner) (algorithms_by c.args.lane_context.now.owner) (g.R.Rows.content c.args.rows.now) c.args.lanes.now c.args.received.lane x c.in-Ok.frame m c.payload-message.result.now c.in-Ok-handle_message.reply c.handle_message.new.lanes (g.R.Rows.content c.handle_message.new.rows)
+    found (sym c.is_truncated.ensures ∙ c.if-is_truncated.false) (c.payload-message.ensures.payload ∙ ap (drop 20) found.bytes) refl c.in-Ok-handle_message.ensures.heard
 
-pub returns-in-Err-clause-received : goal.returns-in-Err-clause-received
-returns-in-Err-clause-received g c =
+pub returns-clause-received : goal.returns-clause-received
+returns-clause-received g c =
     let x = received_of c.args.received in
     refused (lane_profile_by c.args.lane_context.now) (hosted_by c.args.lane_context.now.owner) (algorithms_by c.args.lane_context.now.owner) (g.R.Rows.content c.args.rows.now) c.args.lanes.now c.args.received.lane x c.in-Ok.frame (Busy c.busy.result) c.handle_message.new.lanes (g.R.Rows.content c.handle_message.new.rows)
     (subst (λ (b : List ℕ). IsFrameOf b c.in-Ok.frame) c.as_slice.ensures c.in-Ok.ensures.ok) (ap Busy c.busy.ensures) c.in-Err.ensures.unchanged c.in-Err.ensures.undone
@@ -44,5 +45,5 @@ returns-in-Err-clause-received g c =
 pub returns-then-is_truncated-clause-read : goal.returns-then-is_truncated-clause-read
 returns-then-is_truncated-clause-read g c = read_of c.in-Ok.frame.envelope c.assemble-reply.result c.outcome_of.result c.outcome_of.ensures c.assemble-reply.ensures.read
 
-pub returns-in-Err-clause-read : goal.returns-in-Err-clause-read
-returns-in-Err-clause-read g c = subst IsReplyFrame (sym c.busy.ensures) (short_reply_read c.in-Ok.frame.envelope).0
+pub returns-clause-read : goal.returns-clause-read
+returns-clause-read g c = subst IsReplyFrame (sym c.busy.ensures) (short_reply_read c.in-Ok.frame.envelope).0

@@ -4,7 +4,7 @@ use Rattle.hdl_cachedrows.specs.Cache.{AreTrue}
 use Rattle.hdl_cachedrows.proofs.Keys.{is_key, Lru}
 use Rattle.hdl_cachedrows.proofs.Totals.{total-promoted}
 use Rattle.hdl_cachedrows.proofs.Truth.{used_true, found_true}
-use Rattle.hdl_cachedrows.proofs.cache.Cache.find_at.Goals as goal
+use Rattle.hdl_cachedrows.proofs.cache.Cache.seek_at.Goals as goal
 
 pub invariant_of-self : goal.invariant_of-self
 invariant_of-self c = record {
