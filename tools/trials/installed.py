@@ -22,7 +22,7 @@ def answers(bin_folder):
     yield "hdl --version", releases.said(hdl, "--version").stdout.startswith("hdl %s " % releases.version())
     yield "hdl proxy --version", " %s " % releases.version() in releases.said(hdl, "proxy", "--version").stdout
     with servers.serving(servers.example, 2, handled) as (port, _):
-        asked = releases.said(hdl, "resolve", "10/report-7", "--short", "--server", "127.0.0.1:%d" % port)
+        asked = releases.said(hdl, "resolve", "10/report-7", "--type", "URL", "--short", "--server", "127.0.0.1:%d" % port)
         yield "hdl resolve", asked.stdout == "https://example.org/report-7\n"
 
 
