@@ -28,6 +28,8 @@ ADMIN = "300:0.NA/10"
 OWN = {"Sec-Fetch-Site": "same-origin", "Origin": "null"}
 GERMAN = {"Accept-Language": "de"}
 SPACED = "This handle has a space in it. Is that meant?"
+MARKED = "This handle ends in a mark such as a full stop, a bracket or a slash, which readers may leave out. Is that meant?"
+CIRCLE = "This is the address of the handle itself, so it would lead in a circle. Type the address to which it shall lead."
 MARKUP = "<b>\"'&\u202e"
 WRONG_SECRET = "The secret isn't that of the key. Is there a space at its end?"
 TOO_OLD = "This form is too old, so nothing was done: it can be sent for an hour, and until the server starts again. Please look at it and send it again."
@@ -192,7 +194,10 @@ def changed(one):
     yield "another key", (one.status, one.page.faults) == (403, {"key-fault": "The key is no administrator of this handle, or, for a new one, of the prefix's 0.NA/PREFIX."})
     one.confirm(key=" 0.NA/10:300\t")
     yield "changed", one.status == 200 and "The value is changed" in one.page.words
-    yield "it leads to the values as they are now, to the form, and to another handle", [PATH + "?noredirect&auth", PATH + "?edit", "/?new"] == [link for link in one.page.links if "?" in link]
+    yield "it leads to the values as they are now, to where it leads now, to the form, and to another handle", [PATH + "?noredirect&auth", PATH + "?auth", PATH + "?edit", "/?new"] == [link for link in one.page.links if "?" in link]
+    yield "it says how long browsers keep the old address", any("may go to the old address for up to 300 seconds more" in word for word in one.page.words)
+    one.get(PATH + "?auth")
+    yield "which the link asks anew", (one.status, one.fields.get("location"), one.fields["cache-control"]) == (302, NEW, "max-age=0")
     one.get(PATH + "?noredirect&auth")
     yield "which no browser keeps", one.fields["cache-control"] == "max-age=0" and NEW in one.page.words
     one.get(PATH + "?noredirect")
@@ -208,6 +213,9 @@ def changed(one):
     yield "where typing goes on, and the way back", one.page.focus == "text-5" and one.page.title.startswith("Not done: change 10/<a>") and "?edit" in one.page.links
     one.send(text="a\nb")
     yield "two lines", one.status == 400 and one.page.faults == {"text-5-fault": "Please type a text on one line, of at most 32768 bytes."}
+    for own in (OWN_ADDRESS + PATH[1:], "http://HANDLES.example.org/10/<a>?noredirect"):
+        one.send(text=own)
+        yield "the handle's own address: " + own, (one.status, one.page.faults) == (400, {"text-5-fault": CIRCLE}) and one.page.forms[0][2]["text"] == own
     one.send(text="\u00a0 " + OLD + " \n")
     yield "spaces around an address are dropped", OLD in one.page.words and one.page.forms[0][2]["text"] == OLD
     one.confirm()
@@ -261,6 +269,7 @@ def added(one):
 
 def gone(one):
     one.get(PATH + "?edit")
+    yield "no date is typed", any("the day on which you say so: you need type no date" in word for word in one.page.words)
     why = "Withdrawn by its author <i>"
     one.send(3, text=why)
     other, at = one.page, one.at
@@ -307,13 +316,21 @@ def created(one):
     yield "no address for a new one", one.status == 400 and list(one.page.faults) == ["text-fault"]
     one.send(handle="10/", text=NEW)
     yield "a warning of an empty local name", one.status == 200 and "Nothing follows the slash of this handle. Is that meant?" in one.page.words and SPACED not in one.page.words
+    for mark in ".,;:!?)]}>\"'/":
+        one.get("/?new")
+        one.send(handle="10/report-7" + mark, text=NEW)
+        yield "a warning of a name that ends in " + mark, one.status == 200 and MARKED in one.page.words and SPACED not in one.page.words
+    one.get("/?new")
+    one.send(handle="10/report.7-", text=NEW)
+    yield "and of no other", one.status == 200 and MARKED not in one.page.words
     one.get("/?new")
     one.send(handle="10/n\u00fc <new> ", text=" " + NEW)
     yield "shown before it is created", one.status == 200 and "10/n\u00fc <new>" in one.page.words and SPACED in one.page.words
     page, at = one.page, one.at
     one.confirm()
     path = "/" + urllib.parse.quote("10/n\u00fc <new>")
-    yield "created", one.status == 201 and [path + "?noredirect&auth", path + "?edit", "/?new"] == [link for link in one.page.links if "?" in link] and one.values(path) == {1: ("URL", NEW, 86400, None)}
+    yield "no browser has another address of it", not any("seconds more" in word for word in one.page.words)
+    yield "created", one.status == 201 and [path + "?noredirect&auth", path + "?auth", path + "?edit", "/?new"] == [link for link in one.page.links if "?" in link] and one.values(path) == {1: ("URL", NEW, 86400, None)}
     one.page, one.at = page, at
     one.confirm()
     yield "a reload after it was created", (one.status, one.page.faults) == (409, {"alert": "This handle is there already. Perhaps the form was sent twice."}) and path + "?noredirect&auth" in one.page.links
@@ -345,10 +362,11 @@ def opened(one):
         yield "a page with one field: " + path, one.status == 200 and is_form_page(one) and one.page.faults == {} and one.page.forms == [("/", "get", {"edit": ""}, [(None, None)])]
     page = one.request("GET", "/?edit", fields=GERMAN)
     yield "in English, without a link to itself", '<html lang="en">' in page and "vary" not in one.fields and one.page.title.startswith("Change a handle") and "/?edit" not in one.page.links
-    for text in ("10/<a>", " 10/<a>\n", "\u00a010/<a> ", "hdl:10/<a>", "DOI: 10/<a>", "https://hdl.handle.net/10/%3Ca%3E", "http://dx.doi.org/10/<a> ", OWN_ADDRESS + "10/%3ca%3e", OWN_ADDRESS.upper() + "10/<a>"):
+    for text in ("10/<a>", " 10/<a>\n", "\u00a010/<a> ", "hdl:10/<a>", "DOI: 10/<a>", "https://hdl.handle.net/10/%3Ca%3E", "http://dx.doi.org/10/<a> ", OWN_ADDRESS + "10/%3ca%3e", OWN_ADDRESS.upper() + "10/<a>",
+                 OWN_ADDRESS + "10/%3Ca%3E?noredirect", "http://handles.example.org/10/<a>?auth&a=?b#c ", OWN_ADDRESS + "10/%3Ca%3E%20#top?"):
         one.get(typed(text))
         yield "the way to its form from " + text, (one.status, one.fields.get("location"), one.fields["cache-control"]) == (302, PATH + "?edit", "no-store") and "vary" not in one.fields
-    for name in ("10/n\u00fc <new>?a&b#c%41\"", "10/a?edit", "10/\u202e", "https://evil.example/10/a"):
+    for name in ("10/n\u00fc <new>?a&b#c%41\"", "10/a?edit", "10/\u202e", "https://evil.example/10/a", "https://handles.example.org.evil.example/10/a", "http://127.0.0.1:%d/10/a" % one.port, "https://handles.example.orgs/10/a"):
         one.get(typed(name))
         yield "escaped: " + name, (one.status, one.fields.get("location")) == (302, "/" + urllib.parse.quote(name) + "?edit")
     for text, why in (("10", NO_NAME), ("hdl:", NO_NAME), ("//evil.example/10/a", NO_NAME), (OWN_ADDRESS, NO_NAME), ("\"><script>'& ", NO_NAME), ("10/" + "x" * 2046, "The name is too long.")):
@@ -374,6 +392,41 @@ def opened(one):
     one.send(text=NEW)
     one.confirm()
     yield "changed from the front page", one.status == 200 and one.values()[5][1] == NEW
+    by_another(one, index=5, type="URL", data=OLD, ttl=3600)
+
+
+def at_host(one):
+    """A site without an address of its own is at the host that a request names; and browsers keep its redirects for a minute."""
+    own = "127.0.0.1:%d" % one.port
+    for text in ("http://%s/10/%%3Ca%%3E" % own, "HTTPS://%s/10/<a>#top" % own, " http://%s/10/%%3ca%%3e?noredirect&a=b" % own):
+        one.get(typed(text))
+        yield "its address opens the form: " + text, (one.status, one.fields.get("location")) == (302, PATH + "?edit")
+    for text in ("http://%s1/10/<a>" % own, "http://127.0.0.1/10/<a>", "https://%s.evil.example/10/<a>" % own, "ftp://%s/10/<a>" % own, OWN_ADDRESS + "10/<a>"):
+        one.get(typed(text))
+        yield "another host isn't ours: " + text, (one.status, one.fields.get("location")) == (302, "/" + urllib.parse.quote(text) + "?edit")
+    one.get(PATH + "?edit")
+    for url in ("http://%s/10/%%3Ca%%3E" % own, "HTTPS://%s/10/<a>?a#b" % own):
+        one.send(text=url)
+        yield "a circle: " + url, (one.status, one.page.faults) == (400, {"text-5-fault": CIRCLE}) and one.page.focus == "text-5"
+    for url in ("http://%s/10/<A>" % own, "http://%s/10/b" % own, "http://%s1/10/<a>" % own, "ftp://%s/10/<a>" % own, OWN_ADDRESS + "10/<a>"):
+        one.get(PATH + "?edit")
+        one.send(text=url)
+        yield "no circle: " + url, one.status == 200 and url in one.page.words
+    before = Browser(one.port).values()
+    one.confirm(text="http://%s/10/<a>" % own)
+    yield "a circle in the form that has the key", one.status == 400 and CIRCLE in one.page.faults.values() and Browser(one.port).values() == before
+    one.get("/?new")
+    one.send(handle="10.Abc/New", text="http://%s/10.aBC/New" % own)
+    yield "a new handle that leads to itself", (one.status, one.page.faults) == (400, {"text-fault": CIRCLE})
+    one.send(text="http://%s/10.abc/new" % own)
+    yield "and one that doesn't", one.status == 200 and "Create this handle?" in one.page.words
+    one.get(PATH + "?edit")
+    one.send(1, text="http://%s/10/<a>" % own)
+    yield "a title may be its address", one.status == 200
+    one.get(PATH + "?edit")
+    one.send(text=NEW)
+    one.confirm()
+    yield "how long browsers keep the old address by --browser-cache", any("for up to 60 seconds more" in word for word in one.page.words)
     by_another(one, index=5, type="URL", data=OLD, ttl=3600)
 
 
@@ -538,6 +591,7 @@ def remembered(one):
         time.sleep(0.1 * servers.SLOWER)
     last = one.came[-1].partition("Its last changes")[2].partition("</ol>")[0].split("<li>")[1:]
     yield "the last changes by the history, each with its kind and its key", one.status == 200 and 1 <= len(last) <= 5 and all(ADMIN in change for change in last) and "changed" in last[-1]
+    yield "in UTC", all("</time> (UTC): " in change for change in last)
     yield "and the public value before the first one", all(html.escape(text) in last[-1] for text in ("URL", "1", OLD))
 
 
@@ -594,6 +648,10 @@ def main():
             one = Browser(port)
             for part in (changed, remembered, added, gone, german, created, meanwhile, outdated, refused, opened):
                 cases += part(one)
+            with proxy(behind, "--writes", "--browser-cache", "60") as other:
+                second = Browser(other)
+                cases += at_host(second)
+                one.came += second.came
             with open(log, encoding="utf-8") as lines:
                 one.came.append(lines.read())
         for form in (SECRET, urllib.parse.quote(SECRET), urllib.parse.quote_plus(SECRET), urllib.parse.quote(SECRET, safe=""), "never:shown"):

@@ -122,6 +122,26 @@ def shown(one):
     yield "a list is in English", '<html lang="en">' in page and "vary" not in one.fields and "A list of handles" in one.page.words
 
 
+def first(one):
+    """What was looked for and how many handles were found stand above them, and the form below."""
+    def above(prefix, count, name="any", url="any"):
+        start = one.page.words.index("Handles of the prefix")
+        page = one.came[-1]
+        return one.page.words[start:start + 7] == ["Handles of the prefix", prefix, "Shown here: %d. Words in the handle:" % count, name, ". Words in the URL:", url, "."] \
+            and (not count or page.index("<h2>") < page.index("<ol>") < page.index("<form")) and page.index("<h2>") < page.index("<form") and one.page.title.startswith("Handles of the prefix " + prefix)
+
+    find(one)
+    yield "the first page of a list above its form", above("10", PAGE)
+    one.send(button=1, key=ADMIN, secret=SECRET)
+    yield "and the last one", above("10", len(wanted()) - PAGE)
+    find(one, q="leg 07", to="odd")
+    yield "with the words that are looked for", above("10", len(wanted("10", "leg 07", "odd")), "leg 07", "odd")
+    find(one, q="<no> &such")
+    yield "if none was found", above("10", 0, "<no> &such")
+    one.get("/?list=10&q=leg")
+    yield "nothing was looked for yet", "Handles of the prefix" not in one.page.words and one.page.title.startswith("A list of handles")
+
+
 def refused(one):
     for name, typed, status, fault in (
             ("too many words", {"to": "x" * 257}, 400, {"alert": "The words in the handle, and those in the URL, may have up to 256 bytes each."}),
@@ -181,7 +201,7 @@ def main():
             (behind,) = serving.enter_context(servers.serving(tenants, 1, options=["--table", table]))
             subprocess.run([servers.HANDLED, "copy", "--table", table, "--to", copy], check=True, capture_output=True, timeout=60 * servers.SLOWER)
             one = Browser(stack.enter_context(proxy(behind, "--writes", "--lists", copy, "--log", log)))
-            cases += [*shown(one), *refused(one)]
+            cases += [*shown(one), *first(one), *refused(one)]
             with open(log, encoding="utf-8") as lines:
                 one.came.append(lines.read())
             for form in (SECRET, urllib.parse.quote(SECRET), urllib.parse.quote_plus(SECRET), "never:shown"):

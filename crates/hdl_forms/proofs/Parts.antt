@@ -39,6 +39,10 @@ ways_unclear status name back part unclear e =
 pub ways_look : (status : Status) (name back : List ℕ) → is_unclear status ≡ true → ways_part status name back ≡ with_text templates.Look (fresh_address name) ++ with_text templates.Back back
 ways_look status name back unclear = ap (λ b. if b then with_text templates.Look (fresh_address name) ++ with_text templates.Back back else with_text templates.Back back) unclear
 
+pub three_texts : (a b c x y z : List ℕ) (l0 l1 l2 l3 : List (List ℕ)) → a ≡ x → b ≡ y → c ≡ z → l0 ≡ [] → l1 ≡ l0 ++ a ∷ [] → l2 ≡ l1 ++ b ∷ [] → l3 ≡ l2 ++ c ∷ [] → l3 ≡ x ∷ y ∷ z ∷ []
+three_texts a b c x y z l0 l1 l2 l3 ea eb ec e0 e1 e2 e3 =
+    e3 ∙ ap (λ l. l ++ c ∷ []) (two_texts a b l0 l1 l2 e0 e1 e2) ∙ ap (λ t. t ∷ b ∷ c ∷ []) ea ∙ ap (λ t. x ∷ t ∷ c ∷ []) eb ∙ ap (λ t. x ∷ y ∷ t ∷ []) ec
+
 pub four_texts : (a b c d w x y z : List ℕ) (l0 l1 l2 l3 l4 : List (List ℕ)) → a ≡ w → b ≡ x → c ≡ y → d ≡ z → l0 ≡ [] → l1 ≡ l0 ++ a ∷ [] → l2 ≡ l1 ++ b ∷ [] → l3 ≡ l2 ++ c ∷ [] → l4 ≡ l3 ++ d ∷ []
     → l4 ≡ w ∷ x ∷ y ∷ z ∷ []
 four_texts a b c d w x y z l0 l1 l2 l3 l4 ea eb ec ed e0 e1 e2 e3 e4 =

@@ -27,12 +27,12 @@ pub between : (first last page one two after : List ℕ) (a b : List (List ℕ))
 between first last page one two after a b middle e0 n0 e1 e2 n1 =
     e2 ∙ ap (λ t. two ++ filled last t) n1 ∙ ap (λ p. p ++ filled last []) (e1 ∙ ap (λ p. p ++ middle) (e0 ∙ ap (λ t. page ++ filled first t) n0))
 
--- what was found behind a form, and behind it a template without texts
-pub footed : (markup one two three page form buttons : List ℕ) (handles : List ListedHandle) (seen places : List ℕ) (texts : List (List ℕ)) → one ≡ form ++ buttons → two ≡ with_found one handles seen → seen ≡ places
-    → three ≡ two ++ filled markup texts → texts ≡ [] → page ≡ three → page ≡ with_found (form ++ buttons) handles places ++ filled markup []
-footed markup one two three page form buttons handles seen places texts begun found same foot none e =
-    e ∙ foot ∙ ap (λ t. two ++ filled markup t) none
-    ∙ ap (λ p. p ++ filled markup []) (found ∙ ap (λ p. with_found p handles seen) begun ∙ ap (λ all. with_found (form ++ buttons) handles all) same)
+-- what was found behind its heading, and behind it a template without texts
+pub footed : (markup one two three head : List ℕ) (handles : List ListedHandle) (seen places : List ℕ) (texts : List (List ℕ)) → one ≡ head → two ≡ with_found one handles seen → seen ≡ places
+    → three ≡ two ++ filled markup texts → texts ≡ [] → three ≡ with_found head handles places ++ filled markup []
+footed markup one two three head handles seen places texts begun found same foot none =
+    foot ∙ ap (λ t. two ++ filled markup t) none
+    ∙ ap (λ p. p ++ filled markup []) (found ∙ ap (λ p. with_found p handles seen) begun ∙ ap (λ all. with_found head handles all) same)
 
 -- the list of places that aren't none
 pub some_found : (page : List ℕ) (handles : List ListedHandle) (places : List ℕ) → 0 < length places

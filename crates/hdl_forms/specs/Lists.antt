@@ -1,5 +1,5 @@
 -- The list of a prefix's handles: its form, the order by which a server is asked whether a key may list them, and its page.
-use Rattle.std.specs.Prelude.{◌≡◌, ◌≤◌, ⊤, ℕ, Bool, true, false, List, [], ◌∷◌, ◌++◌, length, if◌then◌else◌, flat_map, slice_get, unwrap_or, codes, decimal, Option, Some, None, Result, IfOk}
+use Rattle.std.specs.Prelude.{◌≡◌, ◌≤◌, ⊤, ℕ, Bool, true, false, List, [], ◌∷◌, ◌++◌, ◌==◌, length, if◌then◌else◌, flat_map, slice_get, unwrap_or, codes, decimal, Option, Some, None, Result, IfOk}
 use Rattle.hdl_value_lines.specs.Fields.{number_in}
 use Rattle.hdl_proxy.specs.Link.{path_to}
 use Rattle.hdl_proxy.specs.declared.answer.Answer.{Answer}
@@ -66,7 +66,7 @@ IsListStep Orders (steps.Order order request) = Orders order request
 -- the form of a request up to its prefix, and what is wrong with it
 abbrev pub with_prefix : ListRequest → List ℕ → List ℕ → List ℕ
 with_prefix request top at_prefix =
-    filled (markup_of templates.List) (request.token ∷ top ∷ []) ++ filled (markup_of (prefix_template at_prefix)) (request.prefix ∷ at_prefix ∷ [])
+    filled (markup_of templates.ListForm) (request.token ∷ top ∷ []) ++ filled (markup_of (prefix_template at_prefix)) (request.prefix ∷ at_prefix ∷ [])
 
 abbrev pub with_words : List ℕ → ListRequest → List ℕ
 with_words page request = page ++ filled (markup_of templates.Words) (request.name ∷ request.url ∷ [])
@@ -82,9 +82,17 @@ abbrev pub buttons : Option ℕ → List ℕ
 buttons None = filled (markup_of templates.Find) []
 buttons (Some next) = filled (markup_of templates.FindOrNext) (decimal next ∷ [])
 
+-- what all pages of lists begin with
+abbrev pub list_top : List ℕ
+list_top = filled (markup_of templates.List) []
+
+-- a whole form
+abbrev pub IsWholeForm : ListRequest → Option ℕ → List ℕ → Type 0
+IsWholeForm request next octets = (form : List ℕ) × IsForm request form × (octets ≡ form ++ buttons next)
+
 -- the form of a request, and no handle
 abbrev pub HasForm : ListRequest → Answer → Type 0
-HasForm request answer = (form : List ℕ) × IsForm request form × (answer.body.items ≡ form ++ buttons None)
+HasForm request answer = (form : List ℕ) × IsWholeForm request None form × (answer.body.items ≡ list_top ++ form)
 
 abbrev pub name_of : Option ListedHandle → List ℕ
 name_of None = []
@@ -114,6 +122,13 @@ row_template handles place = if is_gone_at handles place then templates.GoneRow 
 abbrev pub row_at : List ListedHandle → ℕ → List ℕ
 row_at handles place = filled (markup_of (row_template handles place)) (path_to (name_at handles place) ∷ name_at handles place ∷ url_at handles place ∷ [])
 
+-- what was looked for, and how many handles were found
+abbrev pub or_any : List ℕ → List ℕ
+or_any words = if length words == 0 then codes "any" else words
+
+abbrev pub found_top : ListRequest → ℕ → List ℕ
+found_top request count = filled (markup_of templates.Found) (request.prefix ∷ decimal count ∷ or_any request.name ∷ or_any request.url ∷ [])
+
 -- a page and after it the rows of the handles at these places
 abbrev pub with_list : List ℕ → List ListedHandle → List ℕ → List ℕ
 with_list page handles places =
@@ -137,10 +152,14 @@ pub record Seeks (request : ListRequest) (search : Search) : Type 0 where
   pub name : search.name.items ≡ words_of request.name
   pub url : search.url.items ≡ words_of request.url
 
--- the form of a request, with the way to the next page of its list, and this part of the list
+-- this part of the list, below what was looked for
+abbrev pub found_part : ListRequest → List ListedHandle → ListPage → List ℕ
+found_part request handles page = with_found (found_top request (length page.found.items)) handles page.found.items ++ list_end page.next
+
+-- it, and below it the form of a request, with the way to the next page of its list
 abbrev pub Shows : ListRequest → List ListedHandle → ListPage → Answer → Type 0
 Shows request handles page answer =
-    (form : List ℕ) × IsForm request form × (answer.body.items ≡ with_found (form ++ buttons page.next) handles page.found.items ++ list_end page.next)
+    (form : List ℕ) × IsWholeForm request page.next form × (answer.body.items ≡ (list_top ++ found_part request handles page) ++ form)
 
 -- what is shown is what a request looks for, from its place on
 abbrev pub IsListOf : ListRequest → List ListedHandle → Answer → Type 0

@@ -1,18 +1,20 @@
 -- The page from which the form of an existing handle is opened.
 use Rattle.std.specs.Prelude.{◌≡◌, ◌≢◌, ◌⊎◌, ℕ, Bool, false, List, [], ◌∷◌, ◌++◌, Option, Some, None, codes}
 use Rattle.std.specs.Str.{trim}
+use Rattle.percent_encoding.specs.Percent.{percent_decode}
 use Rattle.hdl_name.specs.Fault.{IsFaultOf}
 use Rattle.hdl_name.specs.Name.{IsHandle}
 use Rattle.hdl_name.specs.declared.fault.NameFault.{NameFault}
 use Rattle.hdl_name.specs.declared.fault.NameFault.TheVariants.{TooLong, NotUtf8, NoSlash, BadSegment, Memory}
 use Rattle.hdl_proxy.specs.Answer.{LeadsTo}
 use Rattle.hdl_proxy.specs.Link.{path_to_form}
-use Rattle.hdl_proxy.specs.Pasted.{IsPastedName}
+use Rattle.hdl_proxy.specs.Pasted.{IsPastedName, between_spaces}
 use Rattle.hdl_proxy.specs.Query.{IsLast, values_named}
 use Rattle.hdl_proxy.specs.declared.answer.Answer.{Answer}
 use Rattle.hdl_proxy.specs.declared.answer.CacheControl.TheVariants.{Never}
 use Rattle.hdl_proxy.specs.declared.answer.Status.{Status}
 use Rattle.hdl_proxy.specs.declared.answer.Status.TheVariants as statuses
+use Rattle.hdl_forms.specs.Address.{path_at}
 use Rattle.hdl_forms.specs.Draft.{Pairs}
 use Rattle.hdl_forms.specs.Fields.{field_template}
 use Rattle.hdl_forms.specs.Pages.{IsFormPage}
@@ -65,11 +67,19 @@ abbrev pub SaysWhy : List ℕ → List ℕ → Answer → Type 0
 SaysWhy typed name answer =
     ¬ (IsHandle name) × ((fault : NameFault) × (IsFaultOf name fault × IsOpenPage statuses.BadRequest typed (words_of_name fault) answer))
 
--- the name in what was typed is that of a handle, whose form is opened, or else it is said why not
-abbrev pub OpensPasted : Option (List ℕ) → List ℕ → Answer → Type 0
-OpensPasted own typed answer = (name : List ℕ) × (IsPastedName own typed name × (LeadsToForm name answer ⊎ SaysWhy typed name answer))
+-- the name in what was typed: of an address at this host in its path, and else as it is pasted
+abbrev pub IsNameIn : List ℕ → Option (List ℕ) → List ℕ → Type 0
+IsNameIn typed None name = IsPastedName None typed name
+IsNameIn typed (Some path) name = name ≡ between_spaces (percent_decode path)
 
--- the empty page where nothing but spaces was typed at the site of this address
-abbrev pub IsOpened : Option (List ℕ) → List ℕ → Answer → Type 0
-IsOpened own typed answer =
-    ((trim typed ≡ []) × IsOpenPage statuses.Success [] [] answer) ⊎ ((trim typed ≢ []) × OpensPasted own typed answer)
+abbrev pub IsTypedName : List ℕ → List ℕ → List ℕ → Type 0
+IsTypedName host typed name = IsNameIn typed (path_at host (trim typed)) name
+
+-- it is that of a handle, whose form is opened, or else it is said why not
+abbrev pub OpensTyped : List ℕ → List ℕ → Answer → Type 0
+OpensTyped host typed answer = (name : List ℕ) × (IsTypedName host typed name × (LeadsToForm name answer ⊎ SaysWhy typed name answer))
+
+-- the empty page where nothing but spaces was typed at the site of this host
+abbrev pub IsOpened : List ℕ → List ℕ → Answer → Type 0
+IsOpened host typed answer =
+    ((trim typed ≡ []) × IsOpenPage statuses.Success [] [] answer) ⊎ ((trim typed ≢ []) × OpensTyped host typed answer)

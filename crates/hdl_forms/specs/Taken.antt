@@ -1,14 +1,14 @@
 -- What a form that came is taken for.
-use Rattle.std.specs.Prelude.{◌≡◌, ⊤, ℕ, if◌then◌else◌, List, [], codes, unwrap_or, Ok}
+use Rattle.std.specs.Prelude.{◌≡◌, ⊤, ℕ, false, if◌then◌else◌, List, [], codes, unwrap_or, Ok}
 use Rattle.std.specs.Str.{is_utf8, trim}
 use Rattle.hdl_proxy.specs.Query.{pairs_of}
 use Rattle.hdl_proxy.specs.declared.answer.Answer.{Answer}
 use Rattle.hdl_proxy.specs.declared.answer.Status.{Status}
 use Rattle.hdl_proxy.specs.declared.answer.Status.TheVariants as statuses
-use Rattle.hdl_forms.specs.Address.{IsAddress}
+use Rattle.hdl_forms.specs.Address.{IsAddress, LeadsBack}
 use Rattle.hdl_forms.specs.Change.{IsActOf, IsBodyOf, IsKeyOf}
 use Rattle.hdl_forms.specs.Confirm.{HasWarnings}
-use Rattle.hdl_forms.specs.Draft.{Pairs, draft_in, first_named}
+use Rattle.hdl_forms.specs.Draft.{Pairs, draft_in, first_named, is_free}
 use Rattle.hdl_forms.specs.Pages.{IsFormPage}
 use Rattle.hdl_forms.specs.declared.change.FormOrder.{FormOrder}
 use Rattle.hdl_forms.specs.declared.draft.Draft.{Draft}
@@ -43,6 +43,10 @@ IsPlain places.New name = ¬ (IsAddress name)
 
 abbrev pub IsNamed : FormPlace → Pairs → List ℕ → Type 0
 IsNamed place pairs name = (name ≡ about place pairs) × IsPlain place name
+
+-- a URL is put into this handle that is its own address at this host
+abbrev pub IsCircular : List ℕ → List ℕ → Draft → Type 0
+IsCircular host name draft = (is_free draft ≡ false) × LeadsBack host name draft.text
 
 -- the form has the change that the fields say, and this is its order by the key that is typed in them
 pub record IsOrderOf (name : List ℕ) (pairs : Pairs) (made : FormOrder) (form : FilledForm) : Type 0 where

@@ -3,7 +3,7 @@ use Rattle.std.specs.Prelude.{◌≡◌, ℕ, ◌==◌, if◌then◌else◌, Lis
 use Rattle.hdl_proxy.specs.Escape.{escaped}
 use Rattle.hdl_forms.specs.declared.markup.Template.{Template}
 use Rattle.hdl_forms.specs.declared.markup.Template.TheVariants as templates
-use Rattle.hdl_forms.specs.declared.markup.TheConstants.{VALUES, ONE_AT_A_TIME, VALUE, VALUE_BUTTONS, FIELD, FAULTY_FIELD, KEY, FAULTY_KEY, SECRET, FAULTY_SECRET, NONE, ADD, ADD_BUTTON, GONE, OPEN, OPEN_BUTTON, CREATE, CREATE_BUTTON, SHOWN, WARNING, TYPE_WARNING, CHANGED, CONFIRM, CONFIRM_BUTTON, BACK, LOOK, DONE, REFUSED, LIST, PREFIX, FAULTY_PREFIX, WORDS, FIND, FIND_OR_NEXT, ROWS, ROW, GONE_ROW, ROWS_END, NOTHING, LIST_FOOT, LIST_FOOT_NEXT, HISTORY, ENTRY, BEFORE, ENTRY_END, HISTORY_END}
+use Rattle.hdl_forms.specs.declared.markup.TheConstants.{VALUES, ONE_AT_A_TIME, VALUE, VALUE_BUTTONS, FIELD, FAULTY_FIELD, KEY, FAULTY_KEY, SECRET, FAULTY_SECRET, NONE, ADD, ADD_BUTTON, GONE, OPEN, OPEN_BUTTON, CREATE, CREATE_BUTTON, SHOWN, WARNING, TYPE_WARNING, CHANGED, CONFIRM, CONFIRM_BUTTON, BACK, LOOK, KEPT, DONE, REFUSED, LIST, LIST_FORM, PREFIX, FAULTY_PREFIX, WORDS, FIND, FIND_OR_NEXT, FOUND, ROWS, ROW, GONE_ROW, ROWS_END, NOTHING, LIST_FOOT, LIST_FOOT_NEXT, HISTORY, ENTRY, BEFORE, ENTRY_END, HISTORY_END}
 use Rattle.hdl_forms.specs.declared.template.TheConstants.{HOLE}
 
 abbrev pub markup_of : Template → List ℕ
@@ -33,14 +33,17 @@ markup_of templates.Confirm = CONFIRM.now
 markup_of templates.ConfirmButton = CONFIRM_BUTTON.now
 markup_of templates.Back = BACK.now
 markup_of templates.Look = LOOK.now
+markup_of templates.Kept = KEPT.now
 markup_of templates.Done = DONE.now
 markup_of templates.Refused = REFUSED.now
 markup_of templates.List = LIST.now
+markup_of templates.ListForm = LIST_FORM.now
 markup_of templates.Prefix = PREFIX.now
 markup_of templates.FaultyPrefix = FAULTY_PREFIX.now
 markup_of templates.Words = WORDS.now
 markup_of templates.Find = FIND.now
 markup_of templates.FindOrNext = FIND_OR_NEXT.now
+markup_of templates.Found = FOUND.now
 markup_of templates.Rows = ROWS.now
 markup_of templates.Row = ROW.now
 markup_of templates.GoneRow = GONE_ROW.now

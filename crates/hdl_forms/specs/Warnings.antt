@@ -1,5 +1,5 @@
 -- What may be wrong with a change, though it can be made.
-use Rattle.std.specs.Prelude.{ℕ, ◌==◌, Bool, false, not, ◌&&◌, if◌then◌else◌, List, [], ◌∷◌, ◌++◌, length, codes, Option, Some, None, map}
+use Rattle.std.specs.Prelude.{ℕ, ◌-◌, ◌==◌, eqb, slice_get, Bool, false, not, ◌&&◌, if◌then◌else◌, List, [], ◌∷◌, ◌++◌, length, codes, Option, Some, None, map}
 use Rattle.std.specs.Char.{to_ascii_lowercase}
 use Rattle.std.specs.List.{list_any}
 use Rattle.std.specs.Str.{bytes_eq}
@@ -9,7 +9,7 @@ use Rattle.hdl_forms.specs.declared.draft.Draft.{Draft}
 use Rattle.hdl_forms.specs.declared.draft.Task.{Task}
 use Rattle.hdl_forms.specs.declared.draft.Task.TheVariants as tasks
 use Rattle.hdl_forms.specs.declared.markup.Template.TheVariants as templates
-use Rattle.hdl_forms.specs.declared.warnings.TheConstants.{LOCAL_EMPTY, NAME_SPACE}
+use Rattle.hdl_forms.specs.declared.warnings.TheConstants.{LOCAL_EMPTY, MARKS, NAME_MARK, NAME_SPACE}
 
 -- nothing follows the first slash
 abbrev pub is_end : Option (List ℕ × List ℕ) → Bool
@@ -21,6 +21,14 @@ is_local_empty name = is_end (cut_at 47 name)
 
 abbrev pub has_space : List ℕ → Bool
 has_space name = list_any (λ octet. octet == 32) name
+
+-- it ends in what readers leave out or add
+abbrev pub is_mark : Option ℕ → Bool
+is_mark None = false
+is_mark (Some octet) = list_any (λ mark. eqb mark octet) MARKS.now
+
+abbrev pub ends_in_mark : List ℕ → Bool
+ends_in_mark name = is_mark (slice_get name (length name - 1))
 
 -- two types differ, and in small and capital letters alone
 abbrev pub is_alike : List ℕ → List ℕ → Bool
@@ -42,9 +50,10 @@ meant_type kind =
 abbrev pub warning_if : Bool → List ℕ → List ℕ
 warning_if applies words = if applies then filled (markup_of templates.Warning) (words ∷ []) else []
 
--- of a new handle: its local name is empty, it has a space in it
+-- of a new handle: its local name is empty, it has a space in it, it ends in a mark
 abbrev pub name_warnings : List ℕ → List ℕ
-name_warnings name = warning_if (is_local_empty name) LOCAL_EMPTY.now ++ warning_if (has_space name) NAME_SPACE.now
+name_warnings name =
+    (warning_if (is_local_empty name) LOCAL_EMPTY.now ++ warning_if (has_space name) NAME_SPACE.now) ++ warning_if (ends_in_mark name) NAME_MARK.now
 
 abbrev pub warning_of : Option (List ℕ) → List ℕ
 warning_of None = []

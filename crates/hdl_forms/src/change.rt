@@ -107,7 +107,7 @@ fn admin_value(alloc: Global, index: u32, handle: &[u8]) -> Result<Value, AllocE
     })
 }
 
-fn is_create(task: Task) -> bool
+pub(crate) fn is_create(task: Task) -> bool
     ensures { result ≡ is_create task }
 {
     matches!(task, Task::Create)

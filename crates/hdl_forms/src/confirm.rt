@@ -1,11 +1,12 @@
 //! The pages of a change: before it is made, where someone else came first, and after it. None of them is handed a key.
 
 ghost use Rattle.std.specs.Prelude.{◌≡◌, ◌⊎◌, ◌++◌, ◌∷◌, [], true, IfOk, string_bytes};
-ghost use Rattle.hdl_forms.specs.Confirm.{HasWarnings, IsUnclear, done_part, fresh_address, edit_address, is_unclear, ways_part};
+ghost use Rattle.hdl_forms.specs.Confirm.{HasWarnings, IsUnclear, done_part, edit_address, followed_address, fresh_address, is_unclear, kept_part, ways_on, ways_part};
 ghost use Rattle.hdl_forms.specs.Fields.{with_keys};
 ghost use Rattle.hdl_forms.specs.Pages.{Has, IsFormPage};
 ghost use Rattle.hdl_forms.specs.Warnings.{warnings};
 
+use crate::change::is_create;
 use crate::draft::{Draft, Task};
 use crate::fault::{Fault, Field, NO_FAULT};
 use crate::markup::{Template, key_template, secret_template};
@@ -150,6 +151,15 @@ fn fresh_address(alloc: Global, name: &[u8]) -> Result<String, AllocError>
     Ok(address)
 }
 
+/// The address at which a handle is followed as the server has it now.
+fn followed_address(alloc: Global, name: &[u8]) -> Result<String, AllocError>
+    ensures { IfOk result (λ text. string_bytes text ≡ followed_address name.now) }
+{
+    let mut address = path_of(alloc, name)?;
+    address.push_str("?auth")?;
+    Ok(address)
+}
+
 /// The address of a handle's form.
 fn edit_address(alloc: Global, name: &[u8]) -> Result<String, AllocError>
     ensures { IfOk result (λ text. string_bytes text ≡ edit_address name.now) }
@@ -277,22 +287,42 @@ pub(crate) fn conflict_page(
     answer_of(alloc, Status::Conflict, lead, &form.name, page)
 }
 
-/// The page that says that a change was made.
+/// For how many seconds browsers keep where a handle led before a change. A new one led nowhere.
+fn kept_part(alloc: Global, task: Task, kept: u32) -> Result<FormPage, AllocError>
+    ensures { IfOk result (λ part. part ≡ kept_part task kept) }
+{
+    let part = FormPage::new(alloc);
+    if is_create(task) {
+        return Ok(part);
+    }
+    part.with(Template::Kept, Texts::new(alloc).and_number(kept)?)
+}
+
+/// The ways on from a change that was made.
+fn ways_on(alloc: Global, name: &[u8]) -> Result<FormPage, AllocError>
+    ensures { IfOk result (λ part. part ≡ ways_on name.now) }
+{
+    let fresh = fresh_address(alloc, name)?;
+    let followed = followed_address(alloc, name)?;
+    let edit = edit_address(alloc, name)?;
+    let texts = Texts::new(alloc).and(fresh.as_bytes())?;
+    let texts = texts.and(followed.as_bytes())?.and(edit.as_bytes())?;
+    FormPage::new(alloc).with(Template::Done, texts)
+}
+
+/// The page that says that a change was made. Browsers keep what was there before for up to this many seconds.
 pub(crate) fn done_page(
     alloc: Global,
     status: Status,
     form: &FilledForm,
+    kept: u32,
 ) -> Result<Answer, AllocError>
     ensures page { IfOk result (IsFormPage status) }
-    ensures fresh { IfOk result (λ page. Has (done_part form.now.name.items) page.body.items) }
+    ensures fresh { IfOk result (λ page. Has (done_part form.now.draft.task form.now.name.items kept) page.body.items) }
 {
     let heading = done_words(&form.draft);
     let page = change_part(alloc, heading, form, "Before", "Now")?;
-    let fresh = fresh_address(alloc, &form.name)?;
-    let edit = edit_address(alloc, &form.name)?;
-    let texts = Texts::new(alloc)
-        .and(fresh.as_bytes())?
-        .and(edit.as_bytes())?;
-    let page = page.with(Template::Done, texts)?;
+    let page = page.join(kept_part(alloc, form.draft.task, kept)?)?;
+    let page = page.join(ways_on(alloc, &form.name)?)?;
     answer_of(alloc, status, heading, b"", page)
 }

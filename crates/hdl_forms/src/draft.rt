@@ -283,7 +283,7 @@ fn old_of(pairs: &[Pair]) -> &str
 }
 
 /// Whether the text may be any: the value is removed, or it is no URL.
-fn is_free(draft: &Draft) -> bool
+pub(crate) fn is_free(draft: &Draft) -> bool
     ensures { result ≡ is_free draft.now }
 {
     is_remove(draft.task) || draft.kind.as_slice() != URL

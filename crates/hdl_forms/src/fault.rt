@@ -126,6 +126,14 @@ pub(crate) fn fault_of_address() -> Fault<'static> {
     )
 }
 
+/// What is said of a URL that is the handle's own address.
+pub(crate) fn fault_of_circle() -> Fault<'static> {
+    fault_at(
+        Field::Text,
+        "This is the address of the handle itself, so it would lead in a circle. Type the address to which it shall lead.",
+    )
+}
+
 /// What is said of a form that is too old.
 pub(crate) fn fault_of_age() -> Fault<'static> {
     fault_at(

@@ -1,24 +1,23 @@
 //! From a request of a form to a page, or to an order.
 
-ghost use Rattle.std.specs.Prelude.{◌≡◌, ◌⊎◌, ⊤, None, Ok, true, false, codes, option_copied, IfOk, IsSomeAnd};
+ghost use Rattle.std.specs.Prelude.{◌≡◌, ◌↔◌, ⊤, None, Ok, true, false, codes, option_copied, IfOk, IsSomeAnd, IsTrue};
 ghost use Rattle.hdl_proxy.specs.Query.{texts_of};
 ghost use Rattle.hdl_proxy.specs.declared.answer.Status.{Status};
-ghost use Rattle.hdl_proxy.specs.declared.answer.Status.TheVariants.{Success, Forbidden, Created, BadRequest};
+ghost use Rattle.hdl_proxy.specs.declared.answer.Status.TheVariants.{Success, Forbidden, BadRequest};
 ghost use Rattle.hdl_forms.specs.Address.{IsAddress};
-ghost use Rattle.hdl_forms.specs.Confirm.{HasWarnings, IsUnclear, done_part, is_unclear};
 ghost use Rattle.hdl_forms.specs.Draft.{draft_in};
 ghost use Rattle.hdl_forms.specs.Origin.{is_same_origin};
-ghost use Rattle.hdl_forms.specs.Pages.{Has, IsFormPage};
-ghost use Rattle.hdl_forms.specs.Taken.{IsOrderOf, IsPlain, IsStep, IsNamed, IsWarned, about, fields_of, page_status, subject_of, text_in};
+ghost use Rattle.hdl_forms.specs.Pages.{IsFormPage};
+ghost use Rattle.hdl_forms.specs.Taken.{IsOrderOf, IsPlain, IsStep, IsCircular, IsNamed, IsWarned, about, fields_of, subject_of, text_in};
 ghost use Rattle.hdl_forms.specs.Token.{accepts};
 
-use crate::address::is_address;
+use crate::address::{is_address, leads_back};
 use crate::change::{FormOrder, TypedKey, order_of};
-use crate::confirm::{confirm_page, done_page, says_gone};
-use crate::draft::{DraftFault, first_named, read_draft, task_of};
+use crate::confirm::confirm_page;
+use crate::draft::{Draft, DraftFault, first_named, is_free, read_draft, task_of};
 use crate::fault::{
-    Fault, Field, NO_FAULT, fault_of_address, fault_of_age, fault_of_draft, fault_of_gone,
-    fault_of_key, fault_of_name, words_of_code,
+    Fault, Field, NO_FAULT, fault_of_address, fault_of_age, fault_of_circle, fault_of_draft,
+    fault_of_key, fault_of_name,
 };
 use crate::origin::{Sender, is_same_origin};
 use crate::pages::{
@@ -32,7 +31,6 @@ use hdl_proxy::{
     Answer, AnswerFormat, CacheControl, Found, NoAnswer, Pair, Question, Status, finish, has_pair,
     read_answer, read_name, read_pairs, unescape,
 };
-use serde_json::Value as Json;
 use std::alloc::{AllocError, Global};
 
 /// Where JSON is answered, and no form is.
@@ -141,10 +139,11 @@ pub fn new_page(alloc: Global, token: &[u8]) -> Result<Answer, AllocError>
     create_page(alloc, Status::Success, b"", b"", token, NO_FAULT)
 }
 
-/// A form as it came: when, in seconds, and its body.
+/// A form as it came: when, in seconds, to which host, with what follows that up to its handles, and its body.
 #[derive(Clone, Copy)]
 pub struct SentForm<'a> {
     pub now: u32,
+    pub host: &'a [u8],
     pub body: &'a [u8],
 }
 
@@ -278,7 +277,8 @@ fn take_filled(
 ) -> Result<FormStep, AllocError>
     requires said { draft_in (texts_of pairs.now) ≡ Ok form.draft }
     requires named { form.name.items ≡ name }
-    ensures { IfOk result (IsStep (IsWarned name (texts_of pairs.now)) (IsOrderOf name (texts_of pairs.now))) }
+    ensures step { IfOk result (IsStep (IsWarned name (texts_of pairs.now)) (IsOrderOf name (texts_of pairs.now))) }
+    ensures same { IfOk result (IsStep (λ _. ⊤) (λ made taken. (made.order.name ≡ name) × (taken.draft ≡ form.draft))) }
 {
     let Some(key) = first_named(pairs, "key") else {
         return Ok(FormStep::Page(confirm_page(alloc, Status::Success, &form, NO_FAULT)?));
@@ -298,15 +298,27 @@ fn take_filled(
     }
 }
 
+/// Whether a change makes this handle lead to itself at this host.
+fn is_circular(alloc: Global, host: &[u8], name: &Name, draft: &Draft) -> Result<bool, AllocError>
+    ensures { IfOk result (λ circular. IsTrue circular ↔ IsCircular host.now name.now draft.now) }
+{
+    if is_free(draft) {
+        return Ok(false);
+    }
+    leads_back(alloc, host, name, draft.text.as_slice())
+}
+
 /// What is next for the fields of a form whose token was accepted.
 fn take_fields(
     alloc: Global,
+    host: &[u8],
     place: &FormPlace,
     pairs: &[Pair],
     token: Vec<u8>,
 ) -> Result<FormStep, AllocError>
     ensures step { IfOk result (IsStep (IsWarned (about place.now (texts_of pairs.now)) (texts_of pairs.now)) (IsOrderOf (about place.now (texts_of pairs.now)) (texts_of pairs.now))) }
     ensures plain { IfOk result (IsStep (λ _. ⊤) (λ made _. IsPlain place.now made.order.name)) }
+    ensures straight { IfOk result (IsStep (λ _. ⊤) (λ made form. ¬ (IsCircular host.now made.order.name form.draft))) }
 {
     let name = match name_in(alloc, place, pairs)? {
         Ok(name) => name,
@@ -314,6 +326,10 @@ fn take_fields(
     };
     match read_draft(alloc, pairs) {
         Ok(draft) => {
+            if is_circular(alloc, host, &name, &draft)? {
+                let fault = fault_of_circle();
+                return Ok(FormStep::Page(fault_page(alloc, place, pairs, &token, fault)?));
+            }
             let form = FilledForm {
                 name: Vec::from_slice(alloc, name.sent())?,
                 draft,
@@ -414,7 +430,7 @@ pub(crate) fn fields_of(alloc: Global, body: &[u8]) -> Result<Vec<Pair>, AllocEr
     read_pairs(alloc, text)
 }
 
-/// What is next for a form of this site: it is shown again, filled in as it was, where its token isn't one of this process for this, not older than an hour. Then its first fault is shown beside its field. A form without a key is shown again to be confirmed, with what may be wrong with it, and one with a key is an order.
+/// What is next for a form of this site: it is shown again, filled in as it was, where its token isn't one of this process for this, not older than an hour. Then its first fault is shown beside its field, also that a handle would lead to itself. A form without a key is shown again to be confirmed, with what may be wrong with it, and one with a key is an order.
 pub fn take_form(
     alloc: Global,
     tokens: &TokenKey,
@@ -423,6 +439,7 @@ pub fn take_form(
 ) -> Result<FormStep, AllocError>
     ensures step { IfOk result (IsStep (IsWarned (about place.now (fields_of sent.entry.body.now)) (fields_of sent.entry.body.now)) (IsOrderOf (about place.now (fields_of sent.entry.body.now)) (fields_of sent.entry.body.now))) }
     ensures plain { IfOk result (IsStep (λ _. ⊤) (λ made _. IsPlain place.now made.order.name)) }
+    ensures straight { IfOk result (IsStep (λ _. ⊤) (λ made form. ¬ (IsCircular sent.entry.host.now made.order.name form.draft))) }
     ensures guarded { IfOk result (IsStep (λ _. ⊤) (λ _ _. accepts tokens.now (subject_of place.now) sent.entry.now (text_in (codes "token") (fields_of sent.entry.body.now)) ≡ true)) }
 {
     let pairs = fields_of(alloc, sent.body)?;
@@ -431,70 +448,5 @@ pub fn take_form(
     if !tokens.accepts(alloc, place.subject(), sent.now, token)? {
         return Ok(FormStep::Page(outdated_page(alloc, place, &pairs, &next)?));
     }
-    take_fields(alloc, place, &pairs, next)
-}
-
-/// Code and message of an answer in JSON.
-pub(crate) fn told_in(alloc: Global, answer: &Answer) -> Result<Option<Json>, AllocError> {
-    let Ok(text) = str::from_utf8(&answer.body) else {
-        return Ok(None);
-    };
-    match Json::from_str(alloc, text) {
-        Ok(json) => Ok(Some(json)),
-        Err(error) if error.is_memory() => Err(AllocError),
-        Err(_) => Ok(None),
-    }
-}
-
-/// Beside which field a refusal is shown.
-fn field_of(status: Status, code: Option<u64>) -> Field {
-    match status {
-        Status::Unauthorized
-            if code == Some(u64::from(ResponseCode::AuthenticationFailed.number())) =>
-            Field::Secret,
-        Status::Unauthorized | Status::Forbidden => Field::Key,
-        _ => Field::Top,
-    }
-}
-
-/// What is wrong, as an answer of this status says in JSON.
-pub(crate) fn fault_told(status: Status, told: Option<&Json>) -> Fault<'_> {
-    let words = told
-        .and_then(|json| json.get("message"))
-        .and_then(|json| json.as_str());
-    let code = told
-        .and_then(|json| json.get("responseCode"))
-        .and_then(|json| json.as_u64());
-    Fault {
-        field: field_of(status, code),
-        words: words_of_code(code).unwrap_or(words.unwrap_or("The server couldn't answer.")),
-    }
-}
-
-/// The status of a page: a browser would ask for a password by itself at 401.
-pub(crate) fn page_status(status: Status) -> Status
-    ensures { result ≡ page_status status }
-{
-    match status {
-        Status::Unauthorized => Status::Forbidden,
-        other => other,
-    }
-}
-
-/// The page of what came of a form's order: that it was done, or the form again with what the answer in JSON says.
-pub fn result_page(alloc: Global, form: &FilledForm, answer: &Answer) -> Result<Answer, AllocError>
-    ensures page { IfOk result (IsFormPage (page_status answer.now.status)) }
-    ensures fresh { (answer.now.status ≡ Success) ⊎ (answer.now.status ≡ Created) → IfOk result (λ page. Has (done_part form.now.name.items) page.body.items) }
-    ensures unclear { is_unclear answer.now.status ≡ true → IfOk result (IsUnclear form.now.name.items) }
-{
-    if matches!(answer.status, Status::Success | Status::Created) {
-        return done_page(alloc, answer.status, form);
-    }
-    let told = told_in(alloc, answer)?;
-    let status = page_status(answer.status);
-    if answer.status == Status::Conflict && says_gone(&form.draft) {
-        return confirm_page(alloc, status, form, fault_of_gone());
-    }
-    let fault = fault_told(answer.status, told.as_ref());
-    confirm_page(alloc, status, form, fault)
+    take_fields(alloc, sent.host, place, &pairs, next)
 }

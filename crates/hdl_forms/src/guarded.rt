@@ -10,8 +10,8 @@ ghost use Rattle.hdl_forms.specs.Taken.{page_status};
 
 use crate::confirm::conflict_page;
 use crate::draft::{Draft, Task};
-use crate::forms::result_page;
 use crate::pages::FilledForm;
+use crate::results::result_page;
 use hdl_proxy::Answer;
 use hdl_rest::{ChangeServer, Order, carry_out, value_there};
 use hdl_value::Value;
@@ -42,33 +42,35 @@ fn carry_on<S: ChangeServer>(
     order: &Order,
     body: &[u8],
     form: &FilledForm,
+    kept: u32,
 ) -> Result<Answer, AllocError>
     ensures asked { AskedSince S.ChangeServer service.old service.new (CarriesOrder order.now body.now result) }
     ensures page { IfOk result (λ page. (status : Status) × IsFormPage status page) }
 {
     let answer = carry_out(alloc, service, order, body)?;
-    result_page(alloc, form, &answer)
+    result_page(alloc, form, &answer, kept)
 }
 
-/// Carries out the order of a form, and makes the page. A value that is changed or removed is read just before: if it isn't as the form showed it, nothing is done, and the page shows both.
+/// Carries out the order of a form, and makes the page. A value that is changed or removed is read just before: if it isn't as the form showed it, nothing is done, and the page shows both. Browsers keep what was there before a change for up to this many seconds.
 pub fn carry_form<S: ChangeServer>(
     alloc: Global,
     service: &mut S,
     order: &Order,
     body: &[u8],
     form: FilledForm,
+    kept: u32,
 ) -> Result<Answer, AllocError>
     ensures asked { AskedSince S.ChangeServer service.old service.new (CarriesForm order.now body.now form.draft result) }
     ensures page { IfOk result (λ page. (status : Status) × IsFormPage status page) }
 {
     if !is_of_shown(form.draft.task) {
-        return carry_on(alloc, service, order, body, &form);
+        return carry_on(alloc, service, order, body, &form, kept);
     }
     match value_there(alloc, service, order, form.draft.index)? {
         Ok(Some(value)) if is_as_shown(&form.draft, &value) => {
-            carry_on(alloc, service, order, body, &form)
+            carry_on(alloc, service, order, body, &form, kept)
         }
         Ok(there) => conflict_page(alloc, form, there),
-        Err(answer) => result_page(alloc, &form, &answer),
+        Err(answer) => result_page(alloc, &form, &answer, kept),
     }
 }

@@ -31,6 +31,7 @@ mod draft;
 mod fault;
 mod form_link;
 mod forms;
+mod found;
 mod guarded;
 mod history;
 mod lists;
@@ -38,16 +39,18 @@ mod markup;
 mod open;
 mod origin;
 mod pages;
+mod results;
 mod template;
 mod token;
 mod warnings;
 
+pub use address::own_host;
 pub use change::{FormOrder, TypedFault, TypedKey, order_of};
 pub use draft::{Draft, DraftFault, Task, read_draft};
 pub use form_link::{FormLink, with_form_link};
 pub use forms::{
     FormPlace, FormStep, SentForm, edit_page, form_at, form_question, new_page,
-    refuse_cross_origin, refuse_unread, result_page, take_form,
+    refuse_cross_origin, refuse_unread, take_form,
 };
 pub use guarded::carry_form;
 pub use history::{SHOWN_MOST, with_history};
@@ -57,4 +60,5 @@ pub use lists::{
 pub use open::{open_at, open_page};
 pub use origin::{Sender, is_same_origin};
 pub use pages::FilledForm;
+pub use results::result_page;
 pub use token::{FORM_LIFE_SECONDS, TokenKey};

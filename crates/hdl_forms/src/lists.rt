@@ -1,11 +1,11 @@
 //! The list of a prefix's handles: its form, the order by which a server is asked whether this key may list them, and its page.
 
-ghost use Rattle.std.specs.Prelude.{◌≡◌, ◌++◌, ◌↔◌, true, IfOk, IfSome, IsTrue, codes, flat_map};
+ghost use Rattle.std.specs.Prelude.{◌≡◌, ◌++◌, ◌↔◌, true, IfOk, IfSome, IsTrue, codes};
 ghost use Rattle.hdl_proxy.specs.Query.{pairs_of, texts_of};
 ghost use Rattle.hdl_proxy.specs.declared.answer.Status.{Status};
 ghost use Rattle.hdl_proxy.specs.declared.answer.Status.TheVariants.{Success};
 ghost use Rattle.hdl_rest.specs.Since.{AskedSince};
-ghost use Rattle.hdl_forms.specs.Lists.{AreFew, CarriesList, HasForm, IsForm, IsListOf, IsListOrder, IsListStep, IsRequest, Seeks, Shows, buttons, foot_template, is_gone_at, name_at, place_in, row_at, row_template, url_at, with_found, with_list, with_prefix, with_words};
+ghost use Rattle.hdl_forms.specs.Lists.{AreFew, CarriesList, HasForm, IsForm, IsListOf, IsListOrder, IsListStep, IsRequest, IsWholeForm, Seeks, Shows, buttons, list_top, place_in, with_prefix, with_words};
 ghost use Rattle.hdl_forms.specs.Pages.{IsFormPage};
 ghost use Rattle.hdl_forms.specs.Taken.{fields_of, page_status, text_in};
 ghost use Rattle.hdl_forms.specs.Token.{accepts};
@@ -15,15 +15,17 @@ use crate::confirm::with_keys;
 use crate::fault::{
     Fault, Field, NO_FAULT, fault_of_age, fault_of_key, fault_of_prefix, fault_of_words,
 };
-use crate::forms::{SentForm, fault_told, fields_of, page_status, text_at, told_in};
+use crate::forms::{SentForm, fields_of, text_at};
+use crate::found::found_part;
 use crate::markup::{Template, prefix_template};
 use crate::pages::answer_of;
+use crate::results::{fault_told, page_status, told_in};
 use crate::template::{FormPage, Texts};
 use crate::token::TokenKey;
 use hdl_copied_handles::{ListPage, ListedHandle, Search, list_page, words_of};
 use hdl_limits::Octets;
 use hdl_name::Name;
-use hdl_proxy::{Answer, Pair, Status, has_pair, path_of, read_name, read_pairs};
+use hdl_proxy::{Answer, Pair, Status, has_pair, read_name, read_pairs};
 use hdl_rest::{ChangeAction, ChangeServer, Order, PageRange, may_list};
 use hdl_value_lines::number_in;
 use std::alloc::{AllocError, Global};
@@ -122,7 +124,7 @@ fn with_prefix(
     let at_prefix = fault.at(Field::Handle);
     let texts = Texts::new(alloc).and(request.token.as_slice())?;
     let texts = texts.and(top)?;
-    let page = FormPage::new(alloc).with(Template::List, texts)?;
+    let page = FormPage::new(alloc).with(Template::ListForm, texts)?;
     let texts = Texts::new(alloc).and(request.prefix.as_slice())?;
     let texts = texts.and(at_prefix)?;
     page.with(prefix_template(at_prefix), texts)
@@ -158,6 +160,26 @@ fn with_buttons(alloc: Global, page: FormPage, next: Option<usize>) -> Result<Fo
     page.with(Template::FindOrNext, texts)
 }
 
+/// What all pages of lists begin with.
+fn list_top(alloc: Global) -> Result<FormPage, AllocError>
+    ensures { IfOk result (λ page. page ≡ list_top) }
+{
+    FormPage::new(alloc).with(Template::List, Texts::new(alloc))
+}
+
+/// The whole form of a request, with what is wrong with it.
+fn whole_form(
+    alloc: Global,
+    request: &ListRequest,
+    fault: Fault<'_>,
+    next: Option<usize>,
+) -> Result<FormPage, AllocError>
+    ensures { IfOk result (λ page. IsWholeForm request.now next page) }
+{
+    let form = form_of(alloc, request, fault)?;
+    with_buttons(alloc, form, next)
+}
+
 /// The page with the form alone, and what is wrong with it.
 fn form_page(
     alloc: Global,
@@ -168,8 +190,8 @@ fn form_page(
     ensures page { IfOk result (IsFormPage status) }
     ensures form { IfOk result (HasForm request.now) }
 {
-    let form = form_of(alloc, request, fault)?;
-    let page = with_buttons(alloc, form, None)?;
+    let form = whole_form(alloc, request, fault, None)?;
+    let page = list_top(alloc)?.join(form)?;
     answer_of(alloc, status, lead_of(fault), TITLE.as_bytes(), page)
 }
 
@@ -281,119 +303,6 @@ fn search_of(alloc: Global, request: &ListRequest) -> Result<Search, AllocError>
     })
 }
 
-/// The name of the handle at this place, and nothing behind the last.
-fn name_at(handles: &[ListedHandle], place: usize) -> &[u8]
-    ensures { result.now ≡ name_at handles.now place }
-{
-    match handles.get(place) {
-        Some(handle) => handle.name.as_slice(),
-        None => b"",
-    }
-}
-
-/// The URL to which it leads.
-fn url_at(handles: &[ListedHandle], place: usize) -> &[u8]
-    ensures { result.now ≡ url_at handles.now place }
-{
-    match handles.get(place) {
-        Some(handle) => handle.url.as_slice(),
-        None => b"",
-    }
-}
-
-/// Whether it is gone.
-fn is_gone_at(handles: &[ListedHandle], place: usize) -> bool
-    ensures { result ≡ is_gone_at handles.now place }
-{
-    match handles.get(place) {
-        Some(handle) => handle.is_gone,
-        None => false,
-    }
-}
-
-/// The template of its row.
-fn row_template(handles: &[ListedHandle], place: usize) -> Template
-    ensures { result ≡ row_template handles.now place }
-{
-    if is_gone_at(handles, place) {
-        Template::GoneRow
-    } else {
-        Template::Row
-    }
-}
-
-/// The page with the row of the handle at this place.
-fn with_row(
-    alloc: Global,
-    page: FormPage,
-    handles: &[ListedHandle],
-    place: usize,
-) -> Result<FormPage, AllocError>
-    ensures { IfOk result (λ after. after ≡ page ++ row_at handles.now place) }
-{
-    let name = name_at(handles, place);
-    let path = path_of(alloc, name)?;
-    let texts = Texts::new(alloc).and(path.as_bytes())?;
-    let texts = texts.and(name)?.and(url_at(handles, place))?;
-    page.with(row_template(handles, place), texts)
-}
-
-/// The page with the rows of the handles at these places.
-fn with_rows(
-    alloc: Global,
-    page: FormPage,
-    handles: &[ListedHandle],
-    places: &[usize],
-) -> Result<FormPage, AllocError>
-    ensures { IfOk result (λ after. after ≡ page ++ flat_map (row_at handles.now) places.now) }
-{
-    let mut rows = page;
-    for place in places {
-        rows = with_row(alloc, rows, handles, *place)?;
-    }
-    Ok(rows)
-}
-
-/// The page with a list of the handles at these places.
-fn with_list(
-    alloc: Global,
-    page: FormPage,
-    handles: &[ListedHandle],
-    places: &[usize],
-) -> Result<FormPage, AllocError>
-    ensures { IfOk result (λ after. after ≡ with_list page handles.now places.now) }
-{
-    let page = page.with(Template::Rows, Texts::new(alloc))?;
-    let page = with_rows(alloc, page, handles, places)?;
-    page.with(Template::RowsEnd, Texts::new(alloc))
-}
-
-/// The page with what was found.
-fn with_found(
-    alloc: Global,
-    page: FormPage,
-    handles: &[ListedHandle],
-    places: &[usize],
-) -> Result<FormPage, AllocError>
-    ensures { IfOk result (λ after. after ≡ with_found page handles.now places.now) }
-{
-    if places.is_empty() {
-        page.with(Template::Nothing, Texts::new(alloc))
-    } else {
-        with_list(alloc, page, handles, places)
-    }
-}
-
-/// The template of what is said below a list, of which there is a next page or none.
-fn foot_template(next: Option<usize>) -> Template
-    ensures { result ≡ foot_template next }
-{
-    match next {
-        Some(_) => Template::ListFootNext,
-        None => Template::ListFoot,
-    }
-}
-
 /// The page that shows this part of a list.
 fn shown(
     alloc: Global,
@@ -404,11 +313,16 @@ fn shown(
     ensures page { IfOk result (IsFormPage Success) }
     ensures body { IfOk result (Shows request.now handles.now part.now) }
 {
-    let form = form_of(alloc, request, NO_FAULT)?;
-    let page = with_buttons(alloc, form, part.next)?;
-    let page = with_found(alloc, page, handles, &part.found)?;
-    let page = page.with(foot_template(part.next), Texts::new(alloc))?;
-    answer_of(alloc, Status::Success, TITLE, b"", page)
+    let found = found_part(alloc, request, handles, part)?;
+    let form = whole_form(alloc, request, NO_FAULT, part.next)?;
+    let page = list_top(alloc)?.join(found)?.join(form)?;
+    answer_of(
+        alloc,
+        Status::Success,
+        "Handles of the prefix ",
+        request.prefix.as_slice(),
+        page,
+    )
 }
 
 /// The page of a list of these handles.

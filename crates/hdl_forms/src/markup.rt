@@ -92,7 +92,7 @@ const GONE: &str = "<h2>Say that it is gone</h2>
 <input type=\"hidden\" name=\"index\" value=\"$\">
 <input type=\"hidden\" name=\"ttl\" value=\"86400\">
 <input type=\"hidden\" name=\"permissions\" value=\"1110\">
-<p>Readers then see a page that says when and why, and aren't sent on. To undo it, remove the value HS_GONE.</p>
+<p>Readers then see a page that says why, and the day on which you say so: you need type no date. They aren't sent on. To undo it, remove the value HS_GONE.</p>
 <p><label for=\"why\">Why it is gone</label>
 <input id=\"why\" name=\"text\" dir=\"auto\" required></p>
 <p class=\"find\"><button name=\"task\" value=\"add\">Say so</button></p>
@@ -177,10 +177,14 @@ const BACK: &str = "<p><a href=\"$\">Back to the form, without this change</a></
 const LOOK: &str = "<p><a href=\"$\">Open the handle and look</a></p>
 ";
 
-/// Below a change that was made: the address of the handle's values as they are now, that of its form.
-const DONE: &str =
-    "<p><small>Browsers, yours too, may follow an old address for some minutes more: reload what seems old.</small></p>
-<p><a href=\"$\">See its values</a></p>
+/// Below a change of a handle that was there before: for how many seconds browsers keep a redirect.
+const KEPT: &str =
+    "<p class=\"note\">A browser that followed this handle lately, yours too, may go to the old address for up to $ seconds more. Reloading doesn't help; these two links ask anew:</p>
+";
+
+/// Below a change that was made: the address of the handle's values as they are now, the one at which it is followed as it is now, that of its form.
+const DONE: &str = "<p><a href=\"$\">See its values</a></p>
+<p><a href=\"$\">Go where it leads</a></p>
 <p><a href=\"$\">Change another value</a></p>
 <p><a href=\"/?new\">Create another handle</a></p>
 ";
@@ -191,10 +195,13 @@ const REFUSED: &str = "<h1>$</h1>
 <p><a href=\"$\">Open the form again</a></p>
 ";
 
-/// The form of a list up to its prefix: token; fault.
+/// What all pages of lists begin with.
 const LIST: &str = "<h1>A list of handles</h1>
 <p>Lists are of a copy of the table: what was changed after that copy was made isn't in them.</p>
-<form class=\"fields\" action=\"/?list\" method=\"post\">
+";
+
+/// The form of a list up to its prefix: token; fault.
+const LIST_FORM: &str = "<form class=\"fields\" action=\"/?list\" method=\"post\">
 <input type=\"hidden\" name=\"token\" value=\"$\">
 <p class=\"fault\" role=\"alert\">$</p>
 ";
@@ -230,9 +237,13 @@ const FIND_OR_NEXT: &str =
 <p><small>Key and secret are used once and then forgotten: type them again for each search and each page.</small></p>
 ";
 
+/// What was looked for: prefix; how many handles were found; words in the handle, words in the URL.
+const FOUND: &str = "<h2>Handles of the prefix <bdi>$</bdi></h2>
+<p role=\"status\">Shown here: $. Words in the handle: <bdi>$</bdi>. Words in the URL: <bdi>$</bdi>.</p>
+";
+
 /// Before the handles that were found, and behind them.
-const ROWS: &str = "<h2>Handles</h2>
-<p id=\"opens\">Each opens in a new tab.</p>
+const ROWS: &str = "<p id=\"opens\">Each opens in a new tab.</p>
 <ol>
 ";
 
@@ -265,7 +276,7 @@ const HISTORY: &str = "<h2>Its last changes</h2>
 ";
 
 /// A change: moment, moment, what it did, who made it.
-const ENTRY: &str = "<li><p><time datetime=\"$\">$</time>: $, by <bdi>$</bdi></p>
+const ENTRY: &str = "<li><p><time datetime=\"$\">$</time> (UTC): $, by <bdi>$</bdi></p>
 ";
 
 /// A value before it: type, index, data.
@@ -307,14 +318,17 @@ pub(crate) enum Template {
     ConfirmButton,
     Back,
     Look,
+    Kept,
     Done,
     Refused,
     List,
+    ListForm,
     Prefix,
     FaultyPrefix,
     Words,
     Find,
     FindOrNext,
+    Found,
     Rows,
     Row,
     GoneRow,
@@ -360,14 +374,17 @@ impl Template {
             Template::ConfirmButton => CONFIRM_BUTTON,
             Template::Back => BACK,
             Template::Look => LOOK,
+            Template::Kept => KEPT,
             Template::Done => DONE,
             Template::Refused => REFUSED,
             Template::List => LIST,
+            Template::ListForm => LIST_FORM,
             Template::Prefix => PREFIX,
             Template::FaultyPrefix => FAULTY_PREFIX,
             Template::Words => WORDS,
             Template::Find => FIND,
             Template::FindOrNext => FIND_OR_NEXT,
+            Template::Found => FOUND,
             Template::Rows => ROWS,
             Template::Row => ROW,
             Template::GoneRow => GONE_ROW,

@@ -1,10 +1,12 @@
 //! The page from which the form of an existing handle is opened.
 
-ghost use Rattle.std.specs.Prelude.{◌≡◌, IfOk, option_copied, option_map, string_bytes};
+ghost use Rattle.std.specs.Prelude.{◌≡◌, IfOk, option_map, string_bytes};
+ghost use Rattle.hdl_proxy.specs.Pasted.{between_spaces};
 ghost use Rattle.hdl_proxy.specs.Query.{pairs_of};
 ghost use Rattle.hdl_proxy.specs.declared.answer.Status.{Status};
-ghost use Rattle.hdl_forms.specs.Open.{IsOpened, IsOpenPage, IsTypedAt, open_form};
+ghost use Rattle.hdl_forms.specs.Open.{IsOpened, IsOpenPage, IsTypedAt, IsTypedName, open_form};
 
+use crate::address::{decoded, path_at};
 use crate::fault::words_of_name;
 use crate::markup::Template;
 use crate::pages::{TypedField, answer_of, with_field};
@@ -60,14 +62,35 @@ fn open_answer(
     answer_of(alloc, status, lead, TITLE.as_bytes(), page)
 }
 
-/// The answer to what was typed at the site of this address, if it has one: the way to the form of that handle. If nothing was typed, it is the page with an empty field; if it is no handle, the page says why.
-pub fn open_page(alloc: Global, own: Option<&str>, typed: &str) -> Result<Answer, AllocError>
-    ensures opened { IfOk result (IsOpened (option_copied own.entry) typed.now) }
+/// The text between the spaces at its ends. Octets that are no text stay as they are.
+fn between_spaces(octets: &[u8]) -> &[u8]
+    ensures { result.now ≡ between_spaces octets.now }
+{
+    match str::from_utf8(octets) {
+        Ok(text) => text.trim().as_bytes(),
+        Err(_) => octets,
+    }
+}
+
+/// The name in what was typed at the site of this host: of an address there in its path, and else as readers paste it.
+fn typed_name(alloc: Global, host: &[u8], typed: &str) -> Result<Vec<u8>, AllocError>
+    ensures { IfOk result (λ name. IsTypedName host.now typed.now name.items) }
+{
+    let Some(path) = path_at(host, typed.trim().as_bytes()) else {
+        return pasted_name(alloc, None, typed);
+    };
+    let octets = decoded(alloc, path)?;
+    Vec::from_slice(alloc, between_spaces(&octets))
+}
+
+/// The answer to what was typed at the site of this host: the way to the form of that handle. If nothing was typed, it is the page with an empty field; if it is no handle, the page says why.
+pub fn open_page(alloc: Global, host: &[u8], typed: &str) -> Result<Answer, AllocError>
+    ensures opened { IfOk result (IsOpened host.now typed.now) }
 {
     if typed.trim().is_empty() {
         return open_answer(alloc, Status::Success, "", "", "");
     }
-    let name = pasted_name(alloc, own, typed)?;
+    let name = typed_name(alloc, host, typed)?;
     match read_name(alloc, &name)? {
         Ok(name) => lead_to_form(alloc, &name),
         Err(fault) => {

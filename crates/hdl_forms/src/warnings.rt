@@ -2,7 +2,7 @@
 
 ghost use Rattle.std.specs.Prelude.{◌≡◌, ◌++◌, IfOk};
 ghost use Rattle.hdl_value.specs.Reading.{Reads};
-ghost use Rattle.hdl_forms.specs.Warnings.{has_space, is_alike, is_local_empty, is_other_case, meant_type, name_warnings, type_warning, warning_if, warnings};
+ghost use Rattle.hdl_forms.specs.Warnings.{ends_in_mark, has_space, is_alike, is_local_empty, is_other_case, meant_type, name_warnings, type_warning, warning_if, warnings};
 
 use crate::draft::{Draft, Task};
 use crate::markup::Template;
@@ -18,6 +18,12 @@ const LOCAL_EMPTY: &str = "Nothing follows the slash of this handle. Is that mea
 
 const NAME_SPACE: &str = "This handle has a space in it. Is that meant?";
 
+/// What readers leave out at the end of a handle, or add there: the end of a sentence, a bracket, a quote, or a folder's slash.
+const MARKS: &[u8] = b".,;:!?)]}>\"'/";
+
+const NAME_MARK: &str =
+    "This handle ends in a mark such as a full stop, a bracket or a slash, which readers may leave out. Is that meant?";
+
 /// Whether nothing follows the slash of a name.
 fn is_local_empty(name: &[u8]) -> bool
     ensures { result ≡ is_local_empty name.now }
@@ -32,6 +38,16 @@ fn has_space(name: &[u8]) -> bool
     ensures { result ≡ has_space name.now }
 {
     name.contains(&b' ')
+}
+
+/// Whether a name ends in what readers leave out or add.
+fn ends_in_mark(name: &[u8]) -> bool
+    ensures { result ≡ ends_in_mark name.now }
+{
+    match name.last() {
+        Some(last) => MARKS.contains(last),
+        None => false,
+    }
 }
 
 /// Whether two types differ at most in small and capital letters.
@@ -88,7 +104,8 @@ fn name_warnings(alloc: Global, name: &[u8]) -> Result<FormPage, AllocError>
 {
     let part = FormPage::new(alloc);
     let part = with_warning(alloc, part, is_local_empty(name), LOCAL_EMPTY)?;
-    with_warning(alloc, part, has_space(name), NAME_SPACE)
+    let part = with_warning(alloc, part, has_space(name), NAME_SPACE)?;
+    with_warning(alloc, part, ends_in_mark(name), NAME_MARK)
 }
 
 /// What may be wrong with the type of a new value.
@@ -102,7 +119,7 @@ fn type_warning(alloc: Global, kind: &[u8]) -> Result<FormPage, AllocError>
     }
 }
 
-/// What may be wrong with a change of this handle: a new handle's name whose local name is empty, or with a space in it, or a new value's type that differs from one by which the proxy acts in small and capital letters alone.
+/// What may be wrong with a change of this handle: a new handle's name whose local name is empty, with a space in it, or that ends in a mark, or a new value's type that differs from one by which the proxy acts in small and capital letters alone.
 pub(crate) fn warnings(alloc: Global, name: &[u8], draft: &Draft) -> Result<FormPage, AllocError>
     ensures { IfOk result (λ part. part ≡ warnings name.now draft.now) }
 {

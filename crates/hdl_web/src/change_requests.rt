@@ -62,7 +62,8 @@ const SLOW: &str = "The body didn't arrive within 10 seconds. Nothing was done."
 #[derive(Drop)]
 pub(crate) enum Purpose {
     Order(Order),
-    Form(FormPlace),
+    /// A form, and the host of this site.
+    Form(FormPlace, Vec<u8>),
     /// The form of a list.
     List,
 }
@@ -125,13 +126,19 @@ impl<R: Wait + Clock> ChangeQueue<R> {
             code.number(),
             why,
         );
-        Progress::Answered(as_page(self.alloc, pending.form, made))
+        Progress::Answered(as_page(self.alloc, pending.form, made, self.shared.redirects))
     }
 
     /// What is next for a form with this body.
-    fn take_form(&self, place: &FormPlace, body: &[u8]) -> Result<Progress, AllocError> {
+    fn take_form(
+        &self,
+        place: &FormPlace,
+        host: &[u8],
+        body: &[u8],
+    ) -> Result<Progress, AllocError> {
         let sent = SentForm {
             now: self.shared.seconds(),
+            host,
             body,
         };
         match take_form(self.alloc, &self.shared.tokens, place, sent)? {
@@ -151,6 +158,7 @@ impl<R: Wait + Clock> ChangeQueue<R> {
     fn take_list(&self, body: &[u8]) -> Result<Progress, AllocError> {
         let sent = SentForm {
             now: self.shared.seconds(),
+            host: b"",
             body,
         };
         match take_list(self.alloc, &self.shared.tokens, sent)? {
@@ -167,7 +175,7 @@ impl<R: Wait + Clock> ChangeQueue<R> {
     fn take_body(&self, purpose: Purpose, body: Bytes) -> Progress {
         match purpose {
             Purpose::Order(order) => self.take(order, body),
-            Purpose::Form(place) => progress_of(self.take_form(&place, &body)),
+            Purpose::Form(place, host) => progress_of(self.take_form(&place, &host, &body)),
             Purpose::List => progress_of(self.take_list(&body)),
         }
     }
@@ -177,7 +185,7 @@ impl<R: Wait + Clock> ChangeQueue<R> {
         let code = ResponseCode::Error.number();
         Progress::Answered(match purpose {
             Purpose::Order(order) => refusal(self.alloc, status, order.name.sent(), code, why),
-            Purpose::Form(place) => refuse_unread(self.alloc, place.address(), status),
+            Purpose::Form(place, _) => refuse_unread(self.alloc, place.address(), status),
             Purpose::List => refuse_unread(self.alloc, LIST_ADDRESS, status),
         })
     }

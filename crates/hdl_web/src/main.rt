@@ -211,6 +211,7 @@ fn start_workers(
         site: site(rt, words)?,
         routes,
         limit: words.timeout.saturating_mul(1000),
+        redirects: redirects(words),
         writes: words.writes,
         language: language(words),
         copied,
@@ -223,12 +224,16 @@ fn start_workers(
     })
 }
 
+/// For how many seconds browsers keep a redirect at most.
+fn redirects(words: &ProxyOptions) -> u32 {
+    u32::try_from(words.redirects).unwrap_or(0)
+}
+
 /// The site of all pages.
 fn site(rt: &HostRuntime, words: &ProxyOptions) -> Result<Site, AllocError> {
     let contact = words.contact.as_ref().map(|contact| contact.as_str());
     let address = words.address.as_ref().map(|address| address.as_str());
-    let redirects = u32::try_from(words.redirects).unwrap_or(0);
-    Site::new(rt.alloc(), &words.site, contact, address, redirects)
+    Site::new(rt.alloc(), &words.site, contact, address, redirects(words))
 }
 
 /// The language of all pages, if the words name one.

@@ -11,7 +11,7 @@ use crate::text::{ProxyText, TextKind};
 use bytes::Bytes;
 use hdl_forms::{
     FormLink, FormPlace, LIST_ADDRESS, ListRequest, Sender, form_at, form_question, list_at,
-    list_form, new_page, open_at, open_page, refuse_cross_origin,
+    list_form, new_page, open_at, open_page, own_host, refuse_cross_origin,
 };
 use hdl_languages::{Language, preferred_language};
 use hdl_proxy::{Next, begin};
@@ -198,7 +198,10 @@ impl<R: Wait + Clock + Copy + Drop> ProxyService<R> {
     fn start_form<B>(&self, req: &Request<B>, place: FormPlace) -> Result<Start<R>, AllocError> {
         match req.method().as_str() {
             "GET" | "HEAD" => Ok(Start::Progress(self.show_form(place)?)),
-            "POST" => self.take_from_page(req, place.address(), Purpose::Form(place)),
+            "POST" => {
+                let host = self.host_of(req)?;
+                self.take_from_page(req, place.address(), Purpose::Form(place, host))
+            }
             _ => self.begin(Language::English, sent_by(req)),
         }
     }
@@ -247,6 +250,11 @@ impl<R: Wait + Clock + Copy + Drop> ProxyService<R> {
         } else {
             Ok(None)
         }
+    }
+
+    /// The host of this site: that of its own address, or the one that a request names.
+    fn host_of<B>(&self, req: &Request<B>) -> Result<Vec<u8>, AllocError> {
+        own_host(self.alloc, self.shared.site.address(), field(req, HOST))
     }
 
     /// The list that a request is for, where there are any.
@@ -323,8 +331,8 @@ impl<R: Wait + Clock + Copy + Drop> ProxyService<R> {
         }
         match self.typed_in(sent)? {
             Some(typed) => {
-                let own = self.shared.site.address();
-                Ok(Start::Progress(Progress::Answered(open_page(self.alloc, own, &typed))))
+                let host = self.host_of(req)?;
+                Ok(Start::Progress(Progress::Answered(open_page(self.alloc, &host, &typed))))
             }
             None => self.begin(language, sent),
         }

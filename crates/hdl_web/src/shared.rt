@@ -78,6 +78,8 @@ pub struct Shared<R> {
     pub(crate) began: Instant,
     /// How many milliseconds an answer of a server may take.
     pub(crate) limit: u64,
+    /// For how many seconds browsers keep a redirect at most.
+    pub(crate) redirects: u32,
     /// Whether handles are changed.
     pub(crate) writes: bool,
     /// The handles of a copy of the table, of which lists are made, if there is one.

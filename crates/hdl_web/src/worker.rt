@@ -29,11 +29,16 @@ pub struct ChangeJob {
     pub(crate) answer: oneshot::Sender<AnswerResult>,
 }
 
-/// The answer to an order that isn't carried out: a page where it came by a form.
-pub(crate) fn as_page(alloc: Global, form: Option<OrderForm>, made: AnswerResult) -> AnswerResult {
+/// The answer to an order that isn't carried out: a page where it came by a form. Browsers keep a redirect for up to this many seconds.
+pub(crate) fn as_page(
+    alloc: Global,
+    form: Option<OrderForm>,
+    made: AnswerResult,
+    kept: u32,
+) -> AnswerResult {
     match form {
         None => made,
-        Some(OrderForm::Change(form)) => result_page(alloc, &form, &made?),
+        Some(OrderForm::Change(form)) => result_page(alloc, &form, &made?, kept),
         Some(OrderForm::List(request)) => refused_list(alloc, &request, &made?),
     }
 }
@@ -49,7 +54,10 @@ fn carried<R, C: ChangeServers>(
     let alloc = shared.alloc;
     match form {
         None => carry_out(alloc, change_servers, order, body),
-        Some(OrderForm::Change(form)) => carry_form(alloc, change_servers, order, body, form),
+        Some(OrderForm::Change(form)) => {
+            let kept = shared.redirects;
+            carry_form(alloc, change_servers, order, body, form, kept)
+        }
         Some(OrderForm::List(request)) => {
             let handles = shared.listed(order.name.prefix());
             carry_list(alloc, change_servers, order, &request, handles)

@@ -38,6 +38,8 @@ pub struct Config {
     pub site: Site,
     pub routes: Vec<Route>,
     pub limit: u64,
+    /// For how many seconds browsers keep a redirect at most.
+    pub redirects: u32,
     pub writes: bool,
     /// The language of all pages; if there is none, each request chooses.
     pub language: Option<Language>,
@@ -183,6 +185,7 @@ where
         owners: Mutex::new(PrefixOwners::new(alloc, RandomState::new(rt)?)?),
         began: Instant::now(rt)?,
         limit: config.limit,
+        redirects: config.redirects,
         writes: config.writes,
         language: config.language,
         copied: config.copied,

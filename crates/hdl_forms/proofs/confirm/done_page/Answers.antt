@@ -1,20 +1,16 @@
-use Rattle.std.proofs.Common.{◌≡◌, ◌∙◌, ◌++◌, ◌∷◌, [], ap}
+use Rattle.std.proofs.Common.{◌≡◌, ◌∙◌, ◌++◌, ap}
+use Rattle.std.proofs.lemmas.List.{append_assoc}
 use Rattle.std.proofs.lemmas.Result.{IfOk-weaker}
-use Rattle.hdl_forms.specs.Confirm.{done_part, edit_address, fresh_address}
-use Rattle.hdl_forms.specs.Template.{filled, markup_of}
-use Rattle.hdl_forms.specs.declared.markup.Template.TheVariants as templates
-use Rattle.hdl_forms.proofs.Parts.{has_last, two_texts}
+use Rattle.hdl_forms.specs.Confirm.{done_part, kept_part, ways_on}
+use Rattle.hdl_forms.proofs.Parts.{has_last}
 use Rattle.hdl_forms.proofs.confirm.done_page.Goals as goal
 
 pub returns-clause-fresh : goal.returns-clause-fresh
 returns-clause-fresh c =
     let name = c.args.form.now.name.items in
-    let fresh : c.as_bytes.result.now ≡ fresh_address name = c.as_bytes.ensures.value ∙ c.in_ok-fresh.ensures ∙ ap fresh_address c.deref.ensures.value in
-    let edit : c.as_bytes-2.result.now ≡ edit_address name = c.as_bytes-2.ensures.value ∙ c.in_ok-edit.ensures ∙ ap edit_address c.deref-2.ensures.value in
-    let texts : c.in_ok-texts.texts.list.items ≡ fresh_address name ∷ edit_address name ∷ [] =
-    two_texts c.as_bytes.result.now c.as_bytes-2.result.now c.new.result.list.items c.in_ok-and.field-0.list.items c.in_ok-texts.texts.list.items c.new.ensures c.in_ok-and.ensures c.in_ok-texts.ensures
-    ∙ ap (λ a. a ∷ c.as_bytes-2.result.now ∷ []) fresh
-    ∙ ap (λ b. fresh_address name ∷ b ∷ []) edit in
-    IfOk-weaker c.answer_of.result _ _
-    (λ answer e. has_last c.in_ok-page.page (done_part name) answer.body.items (e ∙ c.in_ok-page-2.ensures ∙ ap (λ t. c.in_ok-page.page ++ filled (markup_of templates.Done) t) texts))
-    c.answer_of.ensures.body
+    let kept = kept_part c.args.form.now.draft.task c.args.kept in
+    let ways : c.in_ok-ways_on.field-0 ≡ ways_on name = c.in_ok-ways_on.ensures ∙ ap ways_on c.deref.ensures.value in
+    let before = c.in_ok-page.page in
+    let first = c.in_ok-page-2.ensures ∙ ap (λ p. before ++ p) c.in_ok-kept_part.ensures in
+    let both = c.in_ok-page-3.ensures ∙ ap (λ p. p ++ c.in_ok-ways_on.field-0) first ∙ ap (λ p. (before ++ kept) ++ p) ways ∙ append_assoc before kept (ways_on name) in
+    IfOk-weaker c.answer_of.result _ _ (λ answer e. has_last before (done_part c.args.form.now.draft.task name c.args.kept) answer.body.items (e ∙ both)) c.answer_of.ensures.body

@@ -15,8 +15,8 @@ returns c =
     let tops : c.in_ok-texts-2.texts.list.items ≡ r.token ∷ top ∷ [] =
     two_texts c.as_slice.result.now top c.new.result.list.items c.in_ok-texts.texts.list.items c.in_ok-texts-2.texts.list.items c.new.ensures c.in_ok-texts.ensures c.in_ok-texts-2.ensures
     ∙ ap (λ x. x ∷ top ∷ []) c.as_slice.ensures in
-    let first : c.in_ok-page.page ≡ filled (markup_of templates.List) (r.token ∷ top ∷ []) =
-    put_in (markup_of templates.List) c.in_ok-page.page c.new-2.result c.in_ok-texts-2.texts.list.items (r.token ∷ top ∷ []) c.in_ok-page.ensures c.new-2.ensures tops in
+    let first : c.in_ok-page.page ≡ filled (markup_of templates.ListForm) (r.token ∷ top ∷ []) =
+    put_in (markup_of templates.ListForm) c.in_ok-page.page c.new-2.result c.in_ok-texts-2.texts.list.items (r.token ∷ top ∷ []) c.in_ok-page.ensures c.new-2.ensures tops in
     let texts : c.in_ok-texts-4.texts.list.items ≡ r.prefix ∷ at ∷ [] =
     two_texts c.as_slice-2.result.now at c.new-3.result.list.items c.in_ok-texts-3.texts.list.items c.in_ok-texts-4.texts.list.items c.new-3.ensures c.in_ok-texts-3.ensures c.in_ok-texts-4.ensures
     ∙ ap (λ x. x ∷ at ∷ []) c.as_slice-2.ensures in

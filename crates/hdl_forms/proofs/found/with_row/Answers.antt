@@ -3,7 +3,7 @@ use Rattle.std.proofs.lemmas.Result.{IfOk-weaker}
 use Rattle.hdl_proxy.specs.Link.{path_to}
 use Rattle.hdl_forms.specs.Lists.{name_at, row_template}
 use Rattle.hdl_forms.specs.Template.{filled, markup_of}
-use Rattle.hdl_forms.proofs.lists.with_row.Goals as goal
+use Rattle.hdl_forms.proofs.found.with_row.Goals as goal
 
 -- three texts, one after the other
 three : (a b c : List ℕ) (l0 l1 l2 l3 : List (List ℕ)) → l0 ≡ [] → l1 ≡ l0 ++ a ∷ [] → l2 ≡ l1 ++ b ∷ [] → l3 ≡ l2 ++ c ∷ [] → l3 ≡ a ∷ b ∷ c ∷ []

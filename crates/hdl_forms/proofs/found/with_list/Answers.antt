@@ -2,7 +2,7 @@ use Rattle.std.proofs.lemmas.Result.{IfOk-weaker}
 use Rattle.hdl_forms.specs.Template.{markup_of}
 use Rattle.hdl_forms.specs.declared.markup.Template.TheVariants as templates
 use Rattle.hdl_forms.proofs.Rows.{between}
-use Rattle.hdl_forms.proofs.lists.with_list.Goals as goal
+use Rattle.hdl_forms.proofs.found.with_list.Goals as goal
 
 pub returns : goal.returns
 returns c =

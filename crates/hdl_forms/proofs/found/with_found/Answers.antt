@@ -2,7 +2,7 @@ use Rattle.std.proofs.Common.{◌<◌, ◌∙◌, length, sym}
 use Rattle.std.proofs.lemmas.Result.{IfOk-weaker}
 use Rattle.hdl_proxy.proofs.Sections.{positive}
 use Rattle.hdl_forms.proofs.Rows.{some_found}
-use Rattle.hdl_forms.proofs.lists.with_found.Goals as goal
+use Rattle.hdl_forms.proofs.found.with_found.Goals as goal
 
 pub returns-else-is_empty : goal.returns-else-is_empty
 returns-else-is_empty c =

@@ -2,7 +2,7 @@ use Rattle.std.proofs.Common.{◌++◌, refl}
 use Rattle.std.specs.List.{flat_map}
 use Rattle.hdl_forms.specs.Lists.{row_at}
 use Rattle.hdl_forms.proofs.Rows.{one_more}
-use Rattle.hdl_forms.proofs.lists.with_rows.Goals as goal
+use Rattle.hdl_forms.proofs.found.with_rows.Goals as goal
 
 pub loop-place-preserved : goal.loop-place-preserved
 loop-place-preserved c =
