@@ -18,6 +18,8 @@ mod lasting_rows;
 #[cfg(test)]
 mod one_event;
 #[cfg(test)]
+mod partitioned_rows;
+#[cfg(test)]
 mod rows;
 #[cfg(test)]
 mod two_workers;
