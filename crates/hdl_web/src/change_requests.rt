@@ -185,7 +185,7 @@ impl<R: Wait + Clock> ChangeQueue<R> {
         let code = ResponseCode::Error.number();
         Progress::Answered(match purpose {
             Purpose::Order(order) => refusal(self.alloc, status, order.name.sent(), code, why),
-            Purpose::Form(place, _) => refuse_unread(self.alloc, place.address(), status),
+            Purpose::Form(place, _host) => refuse_unread(self.alloc, place.address(), status),
             Purpose::List => refuse_unread(self.alloc, LIST_ADDRESS, status),
         })
     }
